@@ -1,0 +1,4 @@
+pub mod Ats
+pub mod Laws
+pub mod Pps
+pub mod Rats
