@@ -3,7 +3,7 @@ use Prim.Native.Nat.{ℕ, _+_, _<_, _≤_}
 use mathlib.Core.Bool.{true}
 use mathlib.Core.List.{List, [], _∷_, _++_}
 use mathlib.Core.Path.{_≡_}
-use lib.ListN.{length, getD}
+use lib.ListN.{length, getD, take}
 use Rattle.frames.specs.Check.{seal, Opened, opened, openFrame}
 use Rattle.frames.specs.Blocks.{Block, I-block, R-block, deselect, wait, Cid, ValidBlock, bytesOf, frameOf}
 use Rattle.frames.specs.Reading.{Agreed, agrees, Reading, valid, readFrame}
@@ -30,6 +30,10 @@ Takes limit agreed b = ValidBlock b × (length (frameOf b) ≤ limit) × (agrees
 -- the check has two bytes
 abbrev pub Two-more : Type 0
 Two-more = (body : List ℕ) → length (seal body) ≡ length body + 2
+
+-- a frame begins with its body
+abbrev pub Begins-with-its-body : Type 0
+Begins-with-its-body = (body : List ℕ) → take (length body) (seal body) ≡ body
 
 -- a frame within the limit opens to the body that it was made of
 abbrev pub Opens-to-its-body : Type 0

@@ -54,7 +54,7 @@ pub data Reply : Type 0 where
 
 -- the command that the application was given at a frame
 pub data Given : Type 0 where
-  no : Given
+  notGiven : Given
   given : (command : List ℕ) → Given
 
 -- the card and its application's state after a frame, with what was sent back and what was given
@@ -65,7 +65,7 @@ pub record CardMove (S : Type 0) : Type 0 where
   pub command : Given
 
 abbrev pub remains : {S : Type 0} → Card → S → Reply → CardMove S
-remains c s r = record { card = c; state = s; answer = r; command = no }
+remains c s r = record { card = c; state = s; answer = r; command = notGiven }
 
 abbrev pub shut : Awake → Awake
 shut w =

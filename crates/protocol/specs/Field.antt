@@ -44,7 +44,7 @@ use Rattle.protocol.specs.Card.{
   quiet,
   reply,
   Given,
-  no,
+  notGiven,
   given,
   CardMove,
   garbled,
@@ -106,23 +106,23 @@ taken r before m =
 abbrev pub arrives : {S : Type 0} → Setup S → Reader → Card → S → List ℕ → Fate → Crossing S
 arrives u r c s f whole =
     cond (eqb (r .link .dri) (hearsAt c)) (taken r c (takes (u .app) (u .card) c s f))
-    (crossing (world r (garbled c) s quiet) no)
-arrives u r c s f lost = crossing (world r c s quiet) no
-arrives u r c s f spoilt = crossing (world r (garbled c) s quiet) no
+    (crossing (world r (garbled c) s quiet) notGiven)
+arrives u r c s f lost = crossing (world r c s quiet) notGiven
+arrives u r c s f spoilt = crossing (world r (garbled c) s quiet) notGiven
 
 -- What a call's outcome does in the field: a frame is on its way; a refused call and fetch move nothing; after any other
 -- call there is no more reply to hear.
 abbrev pub crosses : {S : Type 0} → Setup S → World S → Reader → Outcome → Fate → Crossing S
-crosses u w r (refused n) fate = crossing (world r (w .card) (w .state) (w .answer)) no
+crosses u w r (refused n) fate = crossing (world r (w .card) (w .state) (w .answer)) notGiven
 crosses u w r (wrote f t) fate = arrives u r (w .card) (w .state) f fate
-crosses u w r (wakes a) fate = crossing (world r (w .card) (w .state) quiet) no
-crosses u w r active fate = crossing (world r (w .card) (w .state) quiet) no
-crosses u w r (answered n s t) fate = crossing (world r (w .card) (w .state) quiet) no
-crosses u w r (over e s t) fate = crossing (world r (w .card) (w .state) quiet) no
-crosses u w r (stopped s t) fate = crossing (world r (w .card) (w .state) quiet) no
-crosses u w r off fate = crossing (world r (w .card) (w .state) quiet) no
-crosses u w r unanswered fate = crossing (world r (w .card) (w .state) quiet) no
-crosses u w r (fetched a) fate = crossing (world r (w .card) (w .state) (w .answer)) no
+crosses u w r (wakes a) fate = crossing (world r (w .card) (w .state) quiet) notGiven
+crosses u w r active fate = crossing (world r (w .card) (w .state) quiet) notGiven
+crosses u w r (answered n s t) fate = crossing (world r (w .card) (w .state) quiet) notGiven
+crosses u w r (over e s t) fate = crossing (world r (w .card) (w .state) quiet) notGiven
+crosses u w r (stopped s t) fate = crossing (world r (w .card) (w .state) quiet) notGiven
+crosses u w r off fate = crossing (world r (w .card) (w .state) quiet) notGiven
+crosses u w r unanswered fate = crossing (world r (w .card) (w .state) quiet) notGiven
+crosses u w r (fetched a) fate = crossing (world r (w .card) (w .state) (w .answer)) notGiven
 
 -- a call, and the fate of the frame that it writes, if it writes one
 pub record Step : Type 0 where
@@ -172,18 +172,18 @@ accepted unanswered = true
 accepted (fetched a) = true
 
 abbrev pub commandIn : Call → Given
-commandIn (ask room) = no
-commandIn (rate dsi dri room) = no
-commandIn start = no
+commandIn (ask room) = notGiven
+commandIn (rate dsi dri room) = notGiven
+commandIn start = notGiven
 commandIn (begin c room) = given c
-commandIn (heard f room) = no
-commandIn (silent room) = no
-commandIn giveUp = no
-commandIn (close room) = no
-commandIn (fetch room) = no
+commandIn (heard f room) = notGiven
+commandIn (silent room) = notGiven
+commandIn giveUp = notGiven
+commandIn (close room) = notGiven
+commandIn (fetch room) = notGiven
 
 abbrev pub noted : Given → List (List ℕ) → List (List ℕ)
-noted no log = log
+noted notGiven log = log
 noted (given c) log = c ∷ log
 
 -- the commands whose begin was accepted

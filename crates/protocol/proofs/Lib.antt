@@ -1,0 +1,15 @@
+pub mod Arrival
+pub mod Asking
+pub mod Basics
+pub mod Counting
+pub mod Delivery
+pub mod Ends
+pub mod Ground
+pub mod Hearing
+pub mod Naming
+pub mod Onward
+pub mod Past
+pub mod Phases
+pub mod Reactions
+pub mod Rests
+pub mod Turning
