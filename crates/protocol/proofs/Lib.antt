@@ -4,12 +4,15 @@ pub mod Basics
 pub mod Counting
 pub mod Delivery
 pub mod Ends
+pub mod Exchanging
 pub mod Ground
 pub mod Hearing
+pub mod Invariant
 pub mod Naming
 pub mod Onward
 pub mod Past
 pub mod Phases
 pub mod Reactions
 pub mod Rests
+pub mod Saying
 pub mod Turning

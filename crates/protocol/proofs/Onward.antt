@@ -12,7 +12,8 @@ use Rattle.frames.specs.Blocks.{Cid, Block, I-block, R-block, wait, frameOf}
 use Rattle.frames.specs.Causes.{Cause}
 use Rattle.applications.specs.App.{App, Keeps, IsCommand, longestCommand}
 use Rattle.protocol.specs.Reader.{noCause, Exchange, Event, more, at, busy, repeated, askAgain, partBlock, granted, waitBlock, appended, ackBlock}
-use Rattle.protocol.specs.Card.{notGiven, 
+use Rattle.protocol.specs.Card.{
+  notGiven,
   Awake,
   awake,
   Owed,
