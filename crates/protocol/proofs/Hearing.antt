@@ -32,10 +32,10 @@ pub data Heard (b : Block) (f : List ℕ) : Fate → Reply → Event → Reading
   amiss : {fate : Fate} {a : Reply} {e : Event} (c : Cause) → isBad (turn f fate a e) ≡ true → Heard b f fate a e (invalid c)
   well : Heard b f whole (reply (frameOf b)) (bytes (frameOf b)) (valid b)
 
-quiet-reply : (f : List ℕ) → quiet ≡ reply f → ⊥
+pub quiet-reply : (f : List ℕ) → quiet ≡ reply f → ⊥
 quiet-reply f e = let z : _≡_ {A = ℕ} 0 1 = cc in omega arith
 
-reply-inj : (f g : List ℕ) → reply f ≡ reply g → f ≡ g
+pub reply-inj : (f g : List ℕ) → reply f ≡ reply g → f ≡ g
 reply-inj f g e = cc
 
 module _ (laws : Laws) (limit : ℕ) (agreed : Agreed) where

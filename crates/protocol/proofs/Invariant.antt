@@ -8,7 +8,7 @@ use lib.ListN.{length}
 use Rattle.frames.specs.Causes.{Cause}
 use Rattle.frames.specs.Check.{seal}
 use Rattle.activation.specs.Ats.{atsOf}
-use Rattle.activation.specs.Pps.{ppsAnswer}
+use Rattle.activation.specs.Pps.{ppsAnswer, offered, greatestRate}
 use Rattle.protocol.specs.Settings.{atsFor}
 use Rattle.protocol.specs.Reader.{
   Stage,
@@ -35,7 +35,7 @@ use Rattle.protocol.specs.Field.{Setup, World, world, moved, Fate}
 use Rattle.protocol.specs.Turns.{Log, logOf, noFrame, out, writtenIn, framesOf, tally, Turn}
 use Rattle.protocol.proofs.Past.{Past}
 use Rattle.protocol.proofs.Phases.{linkAt, up, Phase, behind, partTaken, waiting, answering, ackMissed, Count, BusyInv, in-phase}
-use Rattle.protocol.proofs.Saying.{Told, told-phase}
+use Rattle.protocol.proofs.Saying.{Told, told-phase, no-command}
 
 -- a frame may be there to hear
 pub data Maybe (f : List ℕ) : Reply → Type 0 where
@@ -66,7 +66,7 @@ module _ {S : Type 0} (u : Setup S) (s₀ : S) where
 
   -- the card has not taken the PPS, or it has and its response may be there to hear
   pub data RatingInv (dsi dri : ℕ) : Past S → Type 0 where
-    as-before : (n : ℕ) (c : Cause) (win : Bool) → RatingInv dsi dri (past (world (at (rating dsi dri) (linkAt u s₀ 0 0) (tried n c blankExchange)) (rested win 0 0) s₀ quiet) [] [] noLog)
+    as-before : (n : ℕ) (c : Cause) (win : Bool) → dsi ≤ greatestRate → dri ≤ greatestRate → offered (u .card .ta) dsi dri ≡ true → RatingInv dsi dri (past (world (at (rating dsi dri) (linkAt u s₀ 0 0) (tried n c blankExchange)) (rested win 0 0) s₀ quiet) [] [] noLog)
     changed : (n : ℕ) (c : Cause) {a : Reply} → Maybe (seal (ppsAnswer (u .reader .cid))) a → RatingInv dsi dri (past (world (at (rating dsi dri) (linkAt u s₀ 0 0) (tried n c blankExchange)) (rested false dsi dri) s₀ a) [] [] noLog)
 
   -- a card that was woken by this reader, at these rates, or is off
@@ -87,7 +87,8 @@ module _ {S : Type 0} (u : Setup S) (s₀ : S) where
     is-ended : {dsi dri : ℕ} {x : Exchange} {win m : Bool} {g : List ℕ} {o : Owed} {l : Sent} {begun given : List (List ℕ)} {log : Log} → EndedInv (past (world (at ended (linkAt u s₀ dsi dri) x) (awake (up u s₀ win dsi dri m g o l)) (moved (u .app) s₀ given) quiet) begun given log)
 
   pub data ClosingInv : Past S → Type 0 where
-    after-session : {dsi dri : ℕ} {x : Exchange} {k : Card} {a : Reply} {begun given : List (List ℕ)} {log : Log} → Up dsi dri k → ClosingInv (past (world (at closing (linkAt u s₀ dsi dri) x) k (moved (u .app) s₀ given) a) begun given log)
+    after-session : {dsi dri : ℕ} {x : Exchange} {k : Card} {a : Reply} {begun given : List (List ℕ)} {log : Log} → Up dsi dri k
+        → Told u s₀ x begun given → ClosingInv (past (world (at closing (linkAt u s₀ dsi dri) x) k (moved (u .app) s₀ given) a) begun given log)
     after-failure : {p : Past S} → FailedInv closing p → ClosingInv p
 
   pub data ClosedInv : Past S → Type 0 where
@@ -129,3 +130,10 @@ module _ {S : Type 0} (u : Setup S) (s₀ : S) where
   pub busy-inv : (p : Past S) → BusyInv u s₀ p → Inv p
   busy-inv p (in-phase {x = x} {q = q} {ts = ts} {f = f} {begun = begun} ph C) =
       record { stage = in-phase ph C; told = told-phase u s₀ ph; log = log-ok x ts f q begun _ refl C }
+
+  pub closing-all : {p : Past S} → ClosingInv p → LogOk (p .log) → Inv p
+  closing-all (after-session a T) L = record { stage = after-session a T; told = T; log = L }
+  closing-all (after-failure (unheard-of n c)) L =
+      record { stage = after-failure (unheard-of n c); told = no-command u s₀ _ refl refl; log = L }
+  closing-all (after-failure (heard-of n c dsi dri a)) L =
+      record { stage = after-failure (heard-of n c dsi dri a); told = no-command u s₀ _ refl refl; log = L }

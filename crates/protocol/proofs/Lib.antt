@@ -1,6 +1,8 @@
 pub mod Arrival
 pub mod Asking
+pub mod Asleep
 pub mod Basics
+pub mod Closing
 pub mod Counting
 pub mod Delivery
 pub mod Ends
@@ -16,3 +18,4 @@ pub mod Reactions
 pub mod Rests
 pub mod Saying
 pub mod Turning
+pub mod Waking

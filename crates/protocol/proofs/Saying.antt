@@ -77,6 +77,11 @@ done-not e = let z : _≡_ {A = ℕ} 0 1 = cc in omega arith
 pub done-none : done ≡ none → ⊥
 done-none e = let z : _≡_ {A = ℕ} 0 1 = cc in omega arith
 
+pub say-tried : (p : Progress) (n : ℕ) (c : Cause) (x : Exchange) → sayOf p (tried n c x) ≡ sayOf p x
+say-tried noCommand n c x = refl
+say-tried running n c x = refl
+say-tried finished n c x = refl
+
 module _ {S : Type 0} (u : Setup S) (s₀ : S) where
   -- what an exchange says is true of the commands begun and given
   pub record Told (x : Exchange) (begun given : List (List ℕ)) : Type 0 where
@@ -146,3 +151,17 @@ module _ {S : Type 0} (u : Setup S) (s₀ : S) where
   told-phase (waiting {c = c} {cs = cs} ok nr lo one₁ top few ec) = was-given _ c cs _ refl nr refl refl
   told-phase (answering {c = c} {cs = cs} ahead ok nr cut pos ec) = was-given _ c cs ahead refl nr refl cut
   told-phase (ackMissed {ahead = ahead} {c = c} {cs = cs} ok nr cut pos ma m) = was-given _ c cs ahead refl nr refl cut
+
+  -- what is tried outside an exchange changes nothing in what is said
+  pub told-tried : (n : ℕ) (c : Cause) {x : Exchange} {begun given : List (List ℕ)} → Told x begun given → Told (tried n c x) begun given
+  told-tried n c {x} {begun} {given} T =
+      let e = say-tried (x .progress) n c x in
+      record {
+        commands = T .commands;
+        when-done = λ h. T .when-done (sym e ∙ h);
+        when-taken = λ h. T .when-taken (sym e ∙ h);
+        when-not-taken = λ h. T .when-not-taken (sym e ∙ h);
+        when-none = λ h. T .when-none (sym e ∙ h);
+        answer-front = T .answer-front;
+        answer-whole = λ h. T .answer-whole (sym e ∙ h);
+      }
