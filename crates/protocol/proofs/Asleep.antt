@@ -94,14 +94,14 @@ module _ (laws : Laws) {S : Type 0} (u : Setup S) (s₀ : S) (G : Ground (u .rea
   abbrev pub early : Crossing S → Past S
   early x = past (x .after) [] (noted (x .command) []) noLog
 
-  asking-all : {p : Past S} → AskingInv u s₀ p → Inv u s₀ p
+  pub asking-all : {p : Past S} → AskingInv u s₀ p → Inv u s₀ p
   asking-all (sleeps n c) = record { stage = sleeps n c; told = no-command u s₀ _ refl refl; log = no-log u s₀ }
   asking-all (woke n c win m) = record { stage = woke n c win m; told = no-command u s₀ _ refl refl; log = no-log u s₀ }
 
   pub woken-all : {p : Past S} → WokenInv u s₀ p → Inv u s₀ p
   woken-all (is-woken win) = record { stage = is-woken win; told = no-command u s₀ _ refl refl; log = no-log u s₀ }
 
-  rating-all : {dsi dri : ℕ} {p : Past S} → RatingInv u s₀ dsi dri p → Inv u s₀ p
+  pub rating-all : {dsi dri : ℕ} {p : Past S} → RatingInv u s₀ dsi dri p → Inv u s₀ p
   rating-all (as-before n c win lo hi ok) = record { stage = as-before n c win lo hi ok; told = no-command u s₀ _ refl refl; log = no-log u s₀ }
   rating-all (changed n c m) = record { stage = changed n c m; told = no-command u s₀ _ refl refl; log = no-log u s₀ }
 

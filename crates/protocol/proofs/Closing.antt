@@ -63,7 +63,8 @@ use Rattle.protocol.specs.Turns.{Log}
 use Rattle.protocol.proofs.Arrival.{crossed, arrive-whole, to-deselect}
 use Rattle.protocol.proofs.Delivery.{takes-block}
 use Rattle.protocol.proofs.Ground.{Ground}
-use Rattle.protocol.proofs.Invariant.{closing-all, 
+use Rattle.protocol.proofs.Invariant.{
+  closing-all,
   past,
   noLog,
   Up,
@@ -143,7 +144,7 @@ module _ (laws : Laws) {S : Type 0} (u : Setup S) (s₀ : S) (G : Ground (u .rea
       go false = after-session {dsi = dsi} {dri = dri} is-off T
 
   -- deselect goes out after a waking that came as far as an ATS
-  closes-heard : (n : ℕ) (c : Cause) (dsi dri : ℕ) (k : Card) → Up u s₀ dsi dri k → (fate : Fate)
+  pub closes-heard : (n : ℕ) (c : Cause) (dsi dri : ℕ) (k : Card) → Up u s₀ dsi dri k → (fate : Fate)
       → FailedInv u s₀ closing (crossedPast [] [] noLog (arrives u (at closing (linkAt u s₀ 0 0) (tried n c blankExchange)) k s₀ bye fate))
   closes-heard n c dsi dri k a lost = heard-of n c dsi dri a
   closes-heard n c dsi dri k stands spoilt = heard-of n c dsi dri stands
@@ -159,7 +160,7 @@ module _ (laws : Laws) {S : Type 0} (u : Setup S) (s₀ : S) (G : Ground (u .rea
   closes-heard n c dsi dri k is-off whole = heard-of n c dsi dri is-off
 
   -- deselect goes out after a waking without an ATS
-  closes-unheard : (n : ℕ) (c : Cause) (k : Card) (fate : Fate)
+  pub closes-unheard : (n : ℕ) (c : Cause) (k : Card) (fate : Fate)
       → FailedInv u s₀ closing (crossedPast [] [] noLog (arrives u (at closing blankLink (tried n c blankExchange)) k s₀ (frameOf (deselect without)) fate))
   closes-unheard n c k lost = unheard-of n c
   closes-unheard n c k spoilt = unheard-of n c
@@ -179,12 +180,6 @@ module _ (laws : Laws) {S : Type 0} (u : Setup S) (s₀ : S) (G : Ground (u .rea
           })
           (unheard-of n c)
       go false = unheard-of n c
-
-  -- deselect goes out at the end of a session or of a waking
-  pub closes-failed : {st : Stage} {p : Past S} (n : ℕ) (c : Cause) → FailedInv u s₀ st p → (fate : Fate)
-      → FailedInv u s₀ closing (crossedPast [] [] noLog (arrives u (at closing (p .now .reader .link) (tried n c (p .now .reader .exchange))) (p .now .card) s₀ (frameOf (deselect (p .now .reader .link .cid))) fate))
-  closes-failed n c (unheard-of i y {k}) fate = closes-unheard n c k fate
-  closes-failed n c (heard-of i y dsi dri {k} a) fate = closes-heard n c dsi dri k a fate
 
   -- what a move does while closing
   abbrev pub closingMove : Past S → Move → Fate → Past S

@@ -17,5 +17,6 @@ pub mod Phases
 pub mod Reactions
 pub mod Rests
 pub mod Saying
+pub mod Steps
 pub mod Turning
 pub mod Waking

@@ -578,32 +578,43 @@ guarded inStage room least r m =
 abbrev pub isCommand : List ℕ → Bool
 isCommand c = both (ltb 0 (length c)) (leb (length c) longestCommand)
 
+-- what each call does once it is taken
+
+abbrev pub asks : ReaderSettings → Reader → Move
+asks s r =
+    to asking (r .link) (tried 0 noCause (r .exchange)) (wrote (seal (ratsOf (s .fsdi) (s .cid))) activationTime)
+
+abbrev pub rates : ReaderSettings → Reader → ℕ → ℕ → Move
+rates s r dsi dri =
+    to (rating dsi dri) (r .link) (tried 0 noCause (r .exchange)) (wrote (seal (ppsOf (s .cid) dsi dri)) activationTime)
+
+abbrev pub begins : Reader → List ℕ → Move
+begins r command =
+    let x = begun (roomOf (r .link .fsc) (r .link .cid)) (r .exchange .number) command in
+    writes (r .link) x (partBlock (r .link) x)
+
+abbrev pub stops : Reader → Move
+stops r = to ended (r .link) (r .exchange) (stopped (says r) (r .exchange .totals))
+
+abbrev pub closes : Reader → Move
+closes r =
+    to closing (r .link) (tried 0 noCause (r .exchange)) (wrote (frameOf (deselect (r .link .cid))) activationTime)
+
 -- every call
 abbrev pub doCall : ReaderSettings → Reader → Call → Move
-doCall s r (ask room) =
-    guarded (isAt unwoken r) room greatestFrame r
-    (to asking (r .link) (tried 0 noCause (r .exchange)) (wrote (seal (ratsOf (s .fsdi) (s .cid))) activationTime))
+doCall s r (ask room) = guarded (isAt unwoken r) room greatestFrame r (asks s r)
 doCall s r (rate dsi dri room) =
     cond (both (leb dsi greatestRate) (leb dri greatestRate))
     (guarded (isAt woken r) room greatestFrame r
-    (cond (offered (r .link .ta) dsi dri)
-    (to (rating dsi dri) (r .link) (tried 0 noCause (r .exchange))
-    (wrote (seal (ppsOf (s .cid) dsi dri)) activationTime)) (refuse rateRefused r))) (refuse settingRefused r)
+    (cond (offered (r .link .ta) dsi dri) (rates s r dsi dri) (refuse rateRefused r))) (refuse settingRefused r)
 doCall s r start = cond (isAt woken r) (to idle (r .link) (r .exchange) active) (refuse stageRefused r)
 doCall s r (begin command room) =
     guarded (isAt idle r) room greatestFrame r
-    (cond (isCommand command)
-    (writes (r .link) (begun (roomOf (r .link .fsc) (r .link .cid)) (r .exchange .number) command)
-    (partBlock (r .link) (begun (roomOf (r .link .fsc) (r .link .cid)) (r .exchange .number) command)))
-    (refuse lengthRefused r))
+    (cond (isCommand command) (begins r command) (refuse lengthRefused r))
 doCall s r (heard f room) = guarded (listens r) room greatestFrame r (hear s (r .stage) r (bytes f))
 doCall s r (silent room) = guarded (listens r) room greatestFrame r (hear s (r .stage) r noBytes)
-doCall s r giveUp =
-    cond (isAt busy r) (to ended (r .link) (r .exchange) (stopped (says r) (r .exchange .totals)))
-    (refuse stageRefused r)
-doCall s r (close room) =
-    guarded (mayClose r) room greatestFrame r
-    (to closing (r .link) (tried 0 noCause (r .exchange)) (wrote (frameOf (deselect (r .link .cid))) activationTime))
+doCall s r giveUp = cond (isAt busy r) (stops r) (refuse stageRefused r)
+doCall s r (close room) = guarded (mayClose r) room greatestFrame r (closes r)
 doCall s r (fetch room) =
     guarded (not (isAt closed r)) room longestAnswer r
     (record { reader = r; outcome = fetched (r .exchange .answer) })
