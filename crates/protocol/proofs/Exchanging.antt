@@ -200,8 +200,8 @@ module _ (laws : Laws) {S : Type 0} (u : Setup S) (s₀ : S) (G : Ground (u .rea
       → Told u s₀ x begun given
       → (next : Fate)
       → Inv u s₀ (turnedPast (busyPast x w a fate ts f begun given) e mv next)
-  turn-inv {e = e} ts f (again ph c bad room) C T next = busy-inv u s₀ _ (again-goes laws u s₀ G keeps dsi dri ts f e c ph C bad room next)
-  turn-inv {e = e} ts f (spends ph c bad room) C T next = spends-inv ts f e ph C T
+  turn-inv {e = e} ts f (again ph c ng bad room) C T next = busy-inv u s₀ _ (again-goes laws u s₀ G keeps dsi dri ts f e c ph C bad room next)
+  turn-inv {e = e} ts f (spends ph c ng bad room) C T next = spends-inv ts f e ph C T
   turn-inv {a = a} {fate} {q} {e = e} ts f (rewrites {win} {m} {g} {p} {r} {l} {fr} {rp} {i} {st} {y} {c} {cs} cut ok lo hi room) C T next =
       busy-inv u s₀ _
       (part-goes laws u s₀ G keeps dsi dri win m g p r l fr (rp + 1) (i + 1) 0 y c cs (turn f fate a e ∷ ts) cut ok lo hi

@@ -27,9 +27,14 @@ CanHear a noBytes = Unit {0}
 abbrev pub turn : List ℕ → Fate → Reply → Event → Turn
 turn f fate a e = record { frame = f; fate = fate; sent = a; event = e }
 
+-- an event that is no block of the card's: silence, or noise
+abbrev pub NoGood : Event → Type 0
+NoGood (bytes g) = Noise g
+NoGood noBytes = Unit {0}
+
 -- nothing good was heard, and the turn was bad; or the block that the card sent was, after a whole frame
 pub data Heard (b : Block) (f : List ℕ) : Fate → Reply → Event → Reading → Type 0 where
-  amiss : {fate : Fate} {a : Reply} {e : Event} (c : Cause) → isBad (turn f fate a e) ≡ true → Heard b f fate a e (invalid c)
+  amiss : {fate : Fate} {a : Reply} {e : Event} (c : Cause) → NoGood e → isBad (turn f fate a e) ≡ true → Heard b f fate a e (invalid c)
   well : Heard b f whole (reply (frameOf b)) (bytes (frameOf b)) (valid b)
 
 pub quiet-reply : (f : List ℕ) → quiet ≡ reply f → ⊥
@@ -52,11 +57,11 @@ module _ (laws : Laws) (limit : ℕ) (agreed : Agreed) where
   missed-bad f e by-spoiling = refl
 
   pub hear-nothing : (b : Block) (f : List ℕ) {fate : Fate} {a : Reply} → Missed fate a → (e : Event) → CanHear a e → Heard b f fate a e (readAs limit agreed e)
-  hear-nothing b f {fate} {a} m noBytes can = amiss _ (missed-bad f noBytes m)
+  hear-nothing b f {fate} {a} m noBytes can = amiss _ tt (missed-bad f noBytes m)
   hear-nothing b f {fate} {a} m (bytes g) can =
       let n : Noise g = ⊎-elim (λ e. absurd (no-reply m e)) (λ n. n) can in
       let h = noise-invalid g n in
-      rw (h .1) (amiss (h .0) (missed-bad f (bytes g) m))
+      rw (h .1) (amiss (h .0) n (missed-bad f (bytes g) m))
     where
       no-reply : {fate : Fate} {a : Reply} → Missed fate a → a ≡ reply g → ⊥
       no-reply by-loss e = quiet-reply g e
@@ -67,7 +72,7 @@ module _ (laws : Laws) (limit : ℕ) (agreed : Agreed) where
 
   pub hear-echo : (b : Block) (f : List ℕ) {fate : Fate} {a : Reply} → Takes limit agreed b → Echo b fate a → (e : Event) → CanHear a e → Heard b f fate a e (readAs limit agreed e)
   hear-echo b f t (misses m) e can = hear-nothing b f m e can
-  hear-echo b f t sounds noBytes can = amiss _ refl
+  hear-echo b f t sounds noBytes can = amiss _ tt refl
   hear-echo b f t sounds (bytes g) can = ⊎-elim of-reply of-noise can
     where
       of-reply : reply (frameOf b) ≡ reply g → Heard b f whole (reply (frameOf b)) (bytes g) (readFrame limit agreed g)
@@ -76,4 +81,4 @@ module _ (laws : Laws) (limit : ℕ) (agreed : Agreed) where
           (rw (laws .reads limit agreed b t) well)
 
       of-noise : Noise g → Heard b f whole (reply (frameOf b)) (bytes g) (readFrame limit agreed g)
-      of-noise n = let h = noise-invalid g n in rw (h .1) (amiss (h .0) (noise-bad b f g n))
+      of-noise n = let h = noise-invalid g n in rw (h .1) (amiss (h .0) n (noise-bad b f g n))

@@ -14,9 +14,12 @@ pub mod Naming
 pub mod Onward
 pub mod Past
 pub mod Phases
+pub mod Promises
 pub mod Reactions
 pub mod Rests
+pub mod Runs
 pub mod Saying
 pub mod Steps
 pub mod Turning
+pub mod Views
 pub mod Waking

@@ -171,8 +171,8 @@ module _ {S : Type 0} (u : Setup S) where
 
   -- no turn is refused
   pub turn-accepted : (s₀ : S) {dsi dri : ℕ} {ts : List Turn} {f : List ℕ} {x : Exchange} {w : Awake} {a : Reply} {fate : Fate} {q : Bool} {b g : List (List ℕ)} {e : Event} {m : Move} → Turned u s₀ dsi dri ts f x w a fate q b g e m → accepted (m .outcome) ≡ true
-  turn-accepted s₀ (again ph c bad room) = refl
-  turn-accepted s₀ (spends ph c bad room) = refl
+  turn-accepted s₀ (again ph c ng bad room) = refl
+  turn-accepted s₀ (spends ph c ng bad room) = refl
   turn-accepted s₀ (rewrites cut ok lo hi room) = refl
   turn-accepted s₀ (leaves room) = refl
   turn-accepted s₀ (advances cut ok mr) = refl
@@ -246,10 +246,10 @@ module _ {S : Type 0} (u : Setup S) (s₀ : S) where
   busy-of closed p i e = absurd (false≢true e)
 
 -- a card of a session is awake
-data IsUp {S : Type 0} (u : Setup S) (s₀ : S) (dsi dri : ℕ) : Awake → Type 0 where
+pub data IsUp {S : Type 0} (u : Setup S) (s₀ : S) (dsi dri : ℕ) : Awake → Type 0 where
   is-up : {win m : Bool} {g : List ℕ} {o : Owed} {l : Sent} → IsUp u s₀ dsi dri (up u s₀ win dsi dri m g o l)
 
-up-of : {S : Type 0} (u : Setup S) (s₀ : S) {dsi dri : ℕ} {x : Exchange} {w : Awake} {a : Reply} {fate : Fate} {q : Bool} {bad : ℕ} {b g : List (List ℕ)} → Phase u s₀ dsi dri x w a fate q bad b g → IsUp u s₀ dsi dri w
+pub up-of : {S : Type 0} (u : Setup S) (s₀ : S) {dsi dri : ℕ} {x : Exchange} {w : Awake} {a : Reply} {fate : Fate} {q : Bool} {bad : ℕ} {b g : List (List ℕ)} → Phase u s₀ dsi dri x w a fate q bad b g → IsUp u s₀ dsi dri w
 up-of u s₀ (behind cut ok lo hi b) = is-up
 up-of u s₀ (partTaken cut ok mr ec) = is-up
 up-of u s₀ (waiting ok nr lo one₁ top few ec) = is-up

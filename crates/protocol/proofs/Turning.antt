@@ -71,7 +71,7 @@ use Rattle.protocol.specs.Turns.{Turn, isBad, badTurns}
 use Rattle.protocol.proofs.Basics.{same-self, same-not, take-pos, take-few, more-pos}
 use Rattle.protocol.proofs.Ends.{takes-R, takes-wait, takes-I}
 use Rattle.protocol.proofs.Ground.{Ground}
-use Rattle.protocol.proofs.Hearing.{CanHear, turn, Heard, amiss, well, hear-echo, hear-nothing}
+use Rattle.protocol.proofs.Hearing.{NoGood, CanHear, turn, Heard, amiss, well, hear-echo, hear-nothing}
 use Rattle.protocol.proofs.Phases.{
   by-loss,
   by-spoiling,
@@ -107,6 +107,7 @@ module _ {S : Type 0} (u : Setup S) (s₀ : S) where
     again : {x : Exchange} {w : Awake} {a : Reply} {fate : Fate} {q : Bool} {begun given : List (List ℕ)} {e : Event}
         → Phase u s₀ dsi dri x w a fate q (badTurns ts) begun given
         → (c : Cause)
+        → NoGood e
         → isBad (turn f fate a e) ≡ true
         → x .since < u .reader .repeats
         → Turned dsi dri ts f x w a fate q begun given e (writes (linkAt u s₀ dsi dri) (repeated c x) (askAgain (linkAt u s₀ dsi dri) x))
@@ -114,6 +115,7 @@ module _ {S : Type 0} (u : Setup S) (s₀ : S) where
     spends : {x : Exchange} {w : Awake} {a : Reply} {fate : Fate} {q : Bool} {begun given : List (List ℕ)} {e : Event}
         → Phase u s₀ dsi dri x w a fate q (badTurns ts) begun given
         → (c : Cause)
+        → NoGood e
         → isBad (turn f fate a e) ≡ true
         → u .reader .repeats ≤ x .since
         → Turned dsi dri ts f x w a fate q begun given e (ends (linkAt u s₀ dsi dri) x (spent c))
@@ -189,15 +191,16 @@ module _ {S : Type 0} (u : Setup S) (s₀ : S) where
     bad-event : {x : Exchange} {w : Awake} {a : Reply} {fate : Fate} {q : Bool} {begun given : List (List ℕ)} {e : Event}
         → Phase u s₀ dsi dri x w a fate q (badTurns ts) begun given
         → (c : Cause)
+        → NoGood e
         → isBad (turn f fate a e) ≡ true
         → Turned dsi dri ts f x w a fate q begun given e (reacts x (invalid c))
-    bad-event {x} {w} {a} {fate} {q} {begun} {given} {e} ph c bad = go (ltb (x .since) (u .reader .repeats)) refl
+    bad-event {x} {w} {a} {fate} {q} {begun} {given} {e} ph c ng bad = go (ltb (x .since) (u .reader .repeats)) refl
       where
         go : (b : Bool) → ltb (x .since) (u .reader .repeats) ≡ b
             → Turned dsi dri ts f x w a fate q begun given e
             (cond b (writes (linkAt u s₀ dsi dri) (repeated c x) (askAgain (linkAt u s₀ dsi dri) x)) (ends (linkAt u s₀ dsi dri) x (spent c)))
-        go true t = again ph c bad (ltb-true _ _ t)
-        go false t = spends ph c bad (ltb-false _ _ t)
+        go true t = again ph c ng bad (ltb-true _ _ t)
+        go false t = spends ph c ng bad (ltb-false _ _ t)
 
     big : 16 ≤ sizeOf (u .reader .fsdi)
     big = G .fsd-least
@@ -288,15 +291,15 @@ module _ {S : Type 0} (u : Setup S) (s₀ : S) where
         → Phase u s₀ dsi dri x w a fate q (badTurns ts) begun given
         → Heard b f fate a e r
         → Turned dsi dri ts f x w a fate q begun given e (reacts x r)
-    from-missed by-loss ph (amiss c bad) = bad-event ph c bad
-    from-missed by-spoiling ph (amiss c bad) = bad-event ph c bad
+    from-missed by-loss ph (amiss c ng bad) = bad-event ph c ng bad
+    from-missed by-spoiling ph (amiss c ng bad) = bad-event ph c ng bad
 
     from-sounds : {x : Exchange} {w : Awake} {q : Bool} {begun given : List (List ℕ)} {b : Block} {h : List ℕ} {e : Event} {r : Reading}
         → Phase u s₀ dsi dri x w (reply h) whole q (badTurns ts) begun given
         → Turned dsi dri ts f x w (reply h) whole q begun given (bytes h) (reacts x (valid b))
         → Heard b f whole (reply h) e r
         → Turned dsi dri ts f x w (reply h) whole q begun given e (reacts x r)
-    from-sounds ph good (amiss c bad) = bad-event ph c bad
+    from-sounds ph good (amiss c ng bad) = bad-event ph c ng bad
     from-sounds ph good well = good
 
     abbrev fsd : ℕ
