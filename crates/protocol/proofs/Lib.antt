@@ -5,6 +5,8 @@ pub mod Basics
 pub mod Closing
 pub mod Counting
 pub mod Delivery
+pub mod Doubt
+pub mod Doubting
 pub mod Ends
 pub mod Exchanging
 pub mod Ground

@@ -128,7 +128,7 @@ pub data Takes : Call → Event → Type 0 where
   by-bytes : (f : List ℕ) (room : ℕ) → Takes (heard f room) (bytes f)
   by-silence : (room : ℕ) → Takes (silent room) noBytes
 
-cond-same : {A : Type 0} (b : Bool) (x : A) → cond b x x ≡ x
+pub cond-same : {A : Type 0} (b : Bool) (x : A) → cond b x x ≡ x
 cond-same true x = refl
 cond-same false x = refl
 
