@@ -242,7 +242,7 @@ seen-refused : (c d : Call) (o : Outcome) → callNumber c ≡ callNumber d → 
 seen-refused c d o n e =
     λ i. record { asked = (ap (λ b. cond b (made c) (turnedDown (callNumber c))) e ∙ (ap turnedDown n ∙ sym (ap (λ b. cond b (made d) (turnedDown (callNumber d))) e))) i; outcome = o }
 
-alike-along : {S : Type 0} (p p′ q q′ : Past S) → p ≡ p′ → q ≡ q′ → Alike p q → Alike p′ q′
+pub alike-along : {S : Type 0} (p p′ q q′ : Past S) → p ≡ p′ → q ≡ q′ → Alike p q → Alike p′ q′
 alike-along {S} p p′ q q′ e d al = subst (λ (k : Past S). Alike k q′) e (subst (λ (k : Past S). Alike p k) d al)
 
 module _ (laws : Laws) {S : Type 0} (u : Setup S) (s₀ : S) where

@@ -8,6 +8,7 @@ pub mod Delivery
 pub mod Doubt
 pub mod Doubting
 pub mod Ends
+pub mod Exactly
 pub mod Exchanging
 pub mod Ground
 pub mod Hearing

@@ -197,7 +197,7 @@ module _ {S : Type 0} (u : Setup S) (s₀ : S) where
   guard-test p st i false n m h = subst (λ (v : Past S). Inv u s₀ v) (sym (refused-same u p st n)) i
 
   -- what holds at a stage, by the stage's number
-  un-of : (st : Stage) (p : Past S) → InvAt u s₀ st p → eqb (stageNumber st) 0 ≡ true → UnwokenInv u s₀ p
+  pub un-of : (st : Stage) (p : Past S) → InvAt u s₀ st p → eqb (stageNumber st) 0 ≡ true → UnwokenInv u s₀ p
   un-of unwoken p i e = i
   un-of asking p i e = absurd (false≢true e)
   un-of woken p i e = absurd (false≢true e)
@@ -209,7 +209,7 @@ module _ {S : Type 0} (u : Setup S) (s₀ : S) where
   un-of closing p i e = absurd (false≢true e)
   un-of closed p i e = absurd (false≢true e)
 
-  woken-of : (st : Stage) (p : Past S) → InvAt u s₀ st p → eqb (stageNumber st) 2 ≡ true → WokenInv u s₀ p
+  pub woken-of : (st : Stage) (p : Past S) → InvAt u s₀ st p → eqb (stageNumber st) 2 ≡ true → WokenInv u s₀ p
   woken-of unwoken p i e = absurd (false≢true e)
   woken-of asking p i e = absurd (false≢true e)
   woken-of woken p i e = i
@@ -221,7 +221,7 @@ module _ {S : Type 0} (u : Setup S) (s₀ : S) where
   woken-of closing p i e = absurd (false≢true e)
   woken-of closed p i e = absurd (false≢true e)
 
-  idle-of : (st : Stage) (p : Past S) → InvAt u s₀ st p → eqb (stageNumber st) 5 ≡ true → IdleInv u s₀ p
+  pub idle-of : (st : Stage) (p : Past S) → InvAt u s₀ st p → eqb (stageNumber st) 5 ≡ true → IdleInv u s₀ p
   idle-of unwoken p i e = absurd (false≢true e)
   idle-of asking p i e = absurd (false≢true e)
   idle-of woken p i e = absurd (false≢true e)

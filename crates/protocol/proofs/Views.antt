@@ -195,7 +195,7 @@ module _ (s : ReaderSettings) where
   taken-deselect l x true = refl
   taken-deselect l x false = taken-either (ltb (x .since) (s .repeats)) _ _ refl refl
 
-  abbrev listensAt : Stage → Bool
+  abbrev pub listensAt : Stage → Bool
   listensAt st = orElse (eqb (stageNumber st) 1) (orElse (eqb (stageNumber st) 3) (orElse (eqb (stageNumber st) 6) (eqb (stageNumber st) 8)))
 
   pub taken-hear : (st : Stage) (r : Reader) (e : Event) → listensAt st ≡ true → Taken (hear s st r e)
