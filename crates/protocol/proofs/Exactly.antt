@@ -447,3 +447,39 @@ module _ (laws : Laws) {S : Type 0} (u : Setup S) (s₀ : S) (G : Ground (u .rea
         opens laws u s₀ (record { call = begin c room; fate = fate }) r tt (ap (λ (k : Move). isAt closing (k .reader)) m)
         (ap (λ (k : Move). givenOf (pastOf u (pastIn u s₀ run) (record { call = begin c room; fate = lost }) k)) m ∙ t .0)
         (ap (λ (k : Move). givenOf (pastOf u (pastIn u s₀ run) (record { call = begin c room; fate = whole }) k)) m ∙ t .1)
+
+    -- every call
+    call-doubt : (c : Call) (fate : Fate) → CanCome now c → accepted (doCall (u .reader) (now .reader) c .outcome) ≡ true → says (doCall (u .reader) (now .reader) c .reader) ≡ doubt → Twins u s₀ (record { call = c; fate = fate } ∷ run)
+    call-doubt (ask room) fate can acc d =
+        let g = guarded-taken (isAt unwoken (now .reader)) room greatestFrame (now .reader) (asks (u .reader) (now .reader)) acc in
+        absurd (none-doubt (sym (ask-none (un-of u s₀ (now .reader .stage) (pastIn u s₀ run) (here .stage) (g .0))) ∙ (sym (ap (λ (k : Move). says (k .reader)) (g .1)) ∙ d)))
+    call-doubt (rate dsi dri room) fate can acc d =
+        let a = test-taken (both (leb dsi greatestRate) (leb dri greatestRate)) settingRefused (now .reader) (guarded (isAt woken (now .reader)) room greatestFrame (now .reader) (cond (offered (now .reader .link .ta) dsi dri) (rates (u .reader) (now .reader) dsi dri) (refuse rateRefused (now .reader)))) acc in
+        let g = guarded-taken (isAt woken (now .reader)) room greatestFrame (now .reader) (cond (offered (now .reader .link .ta) dsi dri) (rates (u .reader) (now .reader) dsi dri) (refuse rateRefused (now .reader))) (sym (ap (λ (k : Move). accepted (k .outcome)) (a .1)) ∙ acc) in
+        let h = test-taken (offered (now .reader .link .ta) dsi dri) rateRefused (now .reader) (rates (u .reader) (now .reader) dsi dri) (sym (ap (λ (k : Move). accepted (k .outcome)) (a .1 ∙ g .1)) ∙ acc) in
+        absurd (none-doubt (sym (rate-none dsi dri (woken-of u s₀ (now .reader .stage) (pastIn u s₀ run) (here .stage) (g .0))) ∙ (sym (ap (λ (k : Move). says (k .reader)) (a .1 ∙ (g .1 ∙ h .1))) ∙ d)))
+    call-doubt start fate can acc d =
+        let g = test-taken (isAt woken (now .reader)) stageRefused (now .reader) (to idle (now .reader .link) (now .reader .exchange) active) acc in
+        absurd (none-doubt (sym (start-none (woken-of u s₀ (now .reader .stage) (pastIn u s₀ run) (here .stage) (g .0))) ∙ (sym (ap (λ (k : Move). says (k .reader)) (g .1)) ∙ d)))
+    call-doubt (begin c room) fate can acc d = begin-doubt c room fate acc d
+    call-doubt (heard f room) fate can acc d = event-doubt fate (by-bytes f room) can acc d
+    call-doubt (silent room) fate can acc d = event-doubt fate (by-silence room) can acc d
+    call-doubt giveUp fate can acc d = stop-doubt fate acc d
+    call-doubt (close room) fate can acc d = close-doubt room fate acc d
+    call-doubt (fetch room) fate can acc d = fetch-doubt room fate acc d
+
+    step-doubt : (st : Step) → CanCome now (st .call) → says (after u s₀ (st ∷ run) .reader) ≡ doubt → Twins u s₀ (st ∷ run)
+    step-doubt st can d = go (accepted (moveOf u now (st .call) .outcome)) refl
+      where
+        d′ : says (moveOf u now (st .call) .reader) ≡ doubt
+        d′ = sym (ap says (crosses-reader u now (moveOf u now (st .call) .reader) (moveOf u now (st .call) .outcome) (st .fate))) ∙ d
+
+        go : (b : Bool) → accepted (moveOf u now (st .call) .outcome) ≡ b → Twins u s₀ (st ∷ run)
+        go true e = call-doubt (st .call) (st .fate) can e d′
+        go false e =
+            both-twins (before (sym (ap says (kept-call (u .reader) (now .reader) (st .call) e)) ∙ d′)) (λ truth T. extend-refused laws u s₀ st T e)
+
+  -- in doubt: there are two runs of the same view
+  pub twins : (run : List Step) → IsRun u s₀ run → says (after u s₀ run .reader) ≡ doubt → Twins u s₀ run
+  twins [] r d = absurd (none-doubt d)
+  twins (st ∷ run) r d = step-doubt run (r .1) (twins run (r .1)) st (r .0) d

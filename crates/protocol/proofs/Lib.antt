@@ -1,3 +1,4 @@
+pub mod Agreed
 pub mod Arrival
 pub mod Asking
 pub mod Asleep
