@@ -1,10 +1,10 @@
 // What runs on a card above the protocol.
-ghost use mathlib.Core.Path.{_≡_};
-ghost use Rattle.applications.specs.App.{App, Keeps};
+mod answer;
+mod application;
+mod metre;
+mod status;
 
-// An application on a card. A command of 1 to 261 bytes and the state fix everything that it does.
-pub trait Application {
-    ghost model: { App Self };
-
-    law keeps: { Keeps model };
-}
+pub use application::Application;
+pub use application::Reply;
+pub use metre::Metre;
+pub use status::StatusWord;

@@ -1,0 +1,27 @@
+// Answers: some bytes, and a status word behind them.
+ghost use Prim.Native.Nat.{_+_, _≤_};
+ghost use lib.ListN.{length, take, drop};
+ghost use mathlib.Core.List.{_++_};
+ghost use mathlib.Core.Path.{_≡_};
+ghost use Rattle.applications.specs.Buffer.{over, putAt};
+ghost use Rattle.applications.specs.Status.{wordOf};
+use crate::status::StatusWord;
+
+// Puts `bytes` into the buffer from the place `at` on.
+pub fn put(buffer: &mut [u8], at: usize, bytes: &[u8])
+    requires { ⌜ at + length (now bytes) ≤ length (now buffer) ⌝ }
+    ensures { λ _. ⌜ now (buffer .exit) ≡ putAt at (now (bytes .entry)) (now (buffer .entry)) ⌝ }
+{
+    buffer[at..at + bytes.len()].copy_from_slice(bytes);
+}
+
+// Puts an answer at the front of `answer`: `bytes`, then the status word. Returns its length.
+pub fn put_answer(answer: &mut [u8; 258], bytes: &[u8], status: StatusWord) -> usize
+    requires { ⌜ length (now bytes) ≤ 256 ⌝ }
+    ensures bytes { λ _. ⌜ now (answer .exit) ≡ over (now (bytes .entry) ++ wordOf status) (now (answer .entry)) ⌝ }
+    ensures len { λ r. ⌜ r ≡ length (now (bytes .entry) ++ wordOf status) ⌝ }
+{
+    put(answer, 0, bytes);
+    put(answer, bytes.len(), &status.bytes());
+    bytes.len() + 2
+}
