@@ -1,2 +1,4 @@
+pub mod Bounds
 pub mod Buffers
+pub mod Records
 pub mod Words

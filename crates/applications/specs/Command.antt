@@ -1,5 +1,5 @@
 -- Commands, and how they are judged.
-use Prim.Native.Nat.{ℕ, _+_, _*_}
+use Prim.Native.Nat.{ℕ}
 use mathlib.Core.Bool.{Bool, cond}
 use mathlib.Core.List.{List, [], _∷_}
 use lib.ListN.{getD}
@@ -7,7 +7,7 @@ use Rattle.std.specs.declared.result.Result.{Result}
 use Rattle.std.specs.declared.result.Result.the-variants.{Ok, Err}
 use Rattle.applications.specs.declared.status.StatusWord.{StatusWord}
 
--- a command begins with its class, its instruction and two parameter bytes; the fifth byte is a length
+-- a command begins with its class, its instruction and two parameter bytes; the fifth byte, if any, is a length
 abbrev pub class : List ℕ → ℕ
 class c = getD c 0 0
 
@@ -23,8 +23,8 @@ p2 c = getD c 3 0
 abbrev pub lengthByte : List ℕ → ℕ
 lengthByte c = getD c 4 0
 
--- a command is judged by a list of faults in their order: the first that it has decides the status word, and
--- without a fault it is a request
+-- a command is judged by a list of faults in their order: the first fault that it has decides its status word, and
+-- without a fault it is the request
 abbrev pub judged : {R : Type 0} → List (Bool × StatusWord) → R → Result R StatusWord
 judged [] request = Ok request
 judged (fault ∷ faults) request = cond (fault .0) (Err (fault .1)) (judged faults request)

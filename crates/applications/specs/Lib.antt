@@ -4,3 +4,4 @@ pub mod Command
 pub mod Metre
 pub mod Outcome
 pub mod Status
+pub mod Yarn

@@ -1,10 +1,16 @@
-// What runs on a card above the protocol.
+// What runs on a card above the protocol: the interface, and two applications.
 mod answer;
 mod application;
 mod metre;
 mod status;
+mod yarn;
 
 pub use application::Application;
+pub use application::LONGEST_ANSWER;
 pub use application::Reply;
 pub use metre::Metre;
+pub use metre::MetreApplication;
 pub use status::StatusWord;
+pub use yarn::RECORD_SIZE;
+pub use yarn::Yarn;
+pub use yarn::YarnApplication;

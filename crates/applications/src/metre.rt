@@ -1,49 +1,18 @@
-// A count of metres that is drawn from.
-ghost use Prim.Native.Nat.{_-_};
-ghost use lib.ListN.{length};
+// The metre counter: a count of metres that draws take from.
 ghost use mathlib.Core.Path.{_≡_};
-ghost use Rattle.applications.specs.Buffer.{over};
-ghost use Rattle.applications.specs.Metre.{requestOf, metre, drawStatus, remaining, counting};
+ghost use Rattle.applications.specs.Metre.{metre, counting, remaining, drawStatus};
 use crate::answer::put_answer;
 use crate::application::Application;
+use crate::application::LONGEST_ANSWER;
 use crate::application::Reply;
 use crate::status::StatusWord;
+use request::Request;
+
+mod request;
 
 #[derive(Drop)]
 pub struct Metre {
     count: u32,
-}
-
-// What a command without fault wants.
-#[derive(Clone, Copy)]
-pub enum Request {
-    Draw(u32),
-    Ask,
-}
-
-impl Request {
-    fn read(command: &[u8]) -> Result<Request, StatusWord>
-        ensures { λ r. ⌜ r ≡ requestOf (now (command .entry)) ⌝ }
-    {
-        let [class, instruction, p1, p2, body @ ..] = command else {
-            return Err(StatusWord::WrongLength);
-        };
-        if *class != 0x80 {
-            return Err(StatusWord::ClassNotSupported);
-        }
-        match *instruction {
-            0x10 | 0x12 => {}
-            _ => return Err(StatusWord::InstructionNotSupported),
-        }
-        if *p1 != 0 || *p2 != 0 {
-            return Err(StatusWord::WrongParameters);
-        }
-        match (*instruction, body) {
-            (0x10, [4, a, b, c, d]) => Ok(Request::Draw(u32::from_be_bytes([*a, *b, *c, *d]))),
-            (0x12, [4]) => Ok(Request::Ask),
-            _ => Err(StatusWord::WrongLength),
-        }
-    }
 }
 
 impl Metre {
@@ -61,15 +30,15 @@ impl Metre {
         self.count
     }
 
-    // Books the draw if there is enough.
-    fn draw(&mut self, amount: u32) -> StatusWord
-        ensures status { λ r. ⌜ r ≡ drawStatus (now (self .entry) .count) amount ⌝ }
-        ensures count { λ _. ⌜ now (self .exit) ≡ counting (remaining (now (self .entry) .count) amount) ⌝ }
+    // Takes the metres from the count, unless there are too few.
+    fn draw(&mut self, metres: u32) -> StatusWord
+        ensures status { λ r. ⌜ r ≡ drawStatus (now (self .entry) .count) metres ⌝ }
+        ensures after { λ _. ⌜ now (self .exit) ≡ counting (remaining (now (self .entry) .count) metres) ⌝ }
     {
-        if amount > self.count {
+        if metres > self.count {
             return StatusWord::ConditionsNotSatisfied;
         }
-        self.count -= amount;
+        self.count -= metres;
         StatusWord::Good
     }
 }
@@ -77,33 +46,18 @@ impl Metre {
 pub impl Application for Metre as MetreApplication {
     ghost model = { metre };
 
-    fn take(&mut self, command: &[u8], answer: &mut [u8; 258]) -> Reply {
+    fn respond(&mut self, command: &[u8], answer: &mut [u8; LONGEST_ANSWER]) -> Reply {
         match Request::read(command) {
-            Ok(Request::Draw(amount)) => {
-                let status = self.draw(amount);
-                let len = put_answer(answer, &self.count.to_be_bytes(), status);
-                Reply {
-                    len,
-                    waits: 1,
-                    multiplier: 2,
-                }
+            Ok(Request::Draw(metres)) => {
+                let status = self.draw(metres);
+                Reply::after_one_wait(2, put_answer(answer, &self.count.to_be_bytes(), status))
             }
-            Ok(Request::Ask) => {
-                let len = put_answer(answer, &self.count.to_be_bytes(), StatusWord::Good);
-                Reply {
-                    len,
-                    waits: 0,
-                    multiplier: 1,
-                }
-            }
-            Err(status) => {
-                let len = put_answer(answer, &[], status);
-                Reply {
-                    len,
-                    waits: 0,
-                    multiplier: 1,
-                }
-            }
+            Ok(Request::Ask) => Reply::at_once(put_answer(
+                answer,
+                &self.count.to_be_bytes(),
+                StatusWord::Good,
+            )),
+            Err(status) => Reply::at_once(put_answer(answer, &[], status)),
         }
     }
 }

@@ -1,3 +1,4 @@
+use borrow.Author.Needs.{needs}
 use Prim.Native.Nat.{_+_}
 use lib.ListN.{length, length-append}
 use mathlib.Core.Path.{_∙_, sym, ap}
@@ -13,5 +14,6 @@ returns c =
     let front = c .put .ensures ∙ put-front bytes (c .args .answer .now) in
     record {
       bytes = rw (c .put-2 .ensures, front, c .bytes .ensures) (put-behind bytes word (c .args .answer .now));
+      full = search needs;
       len = sym (length-append bytes word ∙ ap (λ n. length bytes + n) (two-bytes (c .args .status)));
     }

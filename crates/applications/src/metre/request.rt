@@ -1,0 +1,58 @@
+// What a command wants of the metre counter.
+ghost use mathlib.Core.Path.{_≡_};
+ghost use Rattle.applications.specs.Metre.{instructionOf, requestOf};
+use crate::status::StatusWord;
+
+const CLASS: u8 = 0x80;
+
+#[derive(Clone, Copy)]
+pub enum Instruction {
+    DrawMetres,
+    AskCount,
+}
+
+impl Instruction {
+    fn of(byte: u8) -> Result<Instruction, StatusWord>
+        ensures { λ r. ⌜ r ≡ instructionOf byte ⌝ }
+    {
+        match byte {
+            0x10 => Ok(Instruction::DrawMetres),
+            0x12 => Ok(Instruction::AskCount),
+            _ => Err(StatusWord::InstructionNotSupported),
+        }
+    }
+}
+
+#[derive(Clone, Copy)]
+pub enum Request {
+    Draw(u32),
+    Ask,
+}
+
+impl Request {
+    // Judges a command: a request, or the status word of its first fault.
+    pub(super) fn read(command: &[u8]) -> Result<Request, StatusWord>
+        ensures { λ r. ⌜ r ≡ requestOf (now (command .entry)) ⌝ }
+    {
+        let [class, instruction, p1, p2, body @ ..] = command else {
+            return Err(StatusWord::WrongLength);
+        };
+        if *class != CLASS {
+            return Err(StatusWord::ClassNotSupported);
+        }
+        let instruction = Instruction::of(*instruction)?;
+        if *p1 != 0 || *p2 != 0 {
+            return Err(StatusWord::WrongParameters);
+        }
+        match (instruction, body) {
+            (Instruction::DrawMetres, [4, a, b, c, d]) => Ok(Request::Draw(u32::from_be_bytes([
+                *a,
+                *b,
+                *c,
+                *d,
+            ]))),
+            (Instruction::AskCount, [4]) => Ok(Request::Ask),
+            _ => Err(StatusWord::WrongLength),
+        }
+    }
+}
