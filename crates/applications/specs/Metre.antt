@@ -47,9 +47,13 @@ faults c =
     ∷ (not (lengthFits c), WrongLength)
     ∷ []
 
--- the metres of a draw, four bytes high first
+-- four bytes as a number, high first
+abbrev pub numberOf : (a b c d : ℕ) → ℕ
+numberOf a b c d = a * 16777216 + b * 65536 + c * 256 + d
+
+-- the metres of a draw stand behind its five bytes
 abbrev pub metresOf : List ℕ → ℕ
-metresOf c = getD c 5 0 * 16777216 + getD c 6 0 * 65536 + getD c 7 0 * 256 + getD c 8 0
+metresOf c = numberOf (getD c 5 0) (getD c 6 0) (getD c 7 0) (getD c 8 0)
 
 abbrev pub requestOf : List ℕ → Result Request StatusWord
 requestOf c = judged (faults c) (cond (draws c) (Draw (metresOf c)) Ask)

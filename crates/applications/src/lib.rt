@@ -1,6 +1,7 @@
 // What runs on a card above the protocol: the interface, and two applications.
 mod answer;
 mod application;
+mod laws;
 mod metre;
 mod status;
 mod yarn;
@@ -8,6 +9,8 @@ mod yarn;
 pub use application::Application;
 pub use application::LONGEST_ANSWER;
 pub use application::Reply;
+pub use laws::metre_laws_hold;
+pub use laws::yarn_laws_hold;
 pub use metre::Metre;
 pub use metre::MetreApplication;
 pub use status::StatusWord;
