@@ -4,7 +4,7 @@ use native.Mathlib.Omega.{arith}
 use mathlib.Core.List.{List, _++_}
 use mathlib.Core.Path.{_≡_, _∙_, ap}
 use lib.ListN.{length, length-append}
-use Rattle.applications.specs.App.{App, Keeps, longestAnswer}
+use Rattle.applications.specs.App.{Keeps, longestAnswer}
 use Rattle.applications.specs.Outcome.{Outcome, doing, atOnce}
 use Rattle.applications.specs.Status.{wordOf}
 use Rattle.applications.specs.declared.status.StatusWord.{StatusWord}

@@ -1,20 +1,20 @@
 -- The metre counter keeps its books.
-use Prim.Native.Nat.{ℕ, suc, zero, _+_, _-_, _<_, _≤_}
+use Prim.Native.Nat.{ℕ, _+_, _-_, _≤_}
 use native.Mathlib.Omega.{arith}
-use mathlib.Core.Bool.{Bool, true, false, cond}
+use mathlib.Core.Bool.{true, false}
 use mathlib.Core.List.{List, [], _∷_, _++_}
 use mathlib.Core.Logic.{_⊎_, inl, inr}
 use mathlib.Core.Path.{_≡_, refl, _∙_, sym, ap}
 use lib.Dec.{leb}
-use lib.ListN.{length, getD, length-append}
+use lib.ListN.{getD}
 use Rattle.std.proofs.shelf.Ways.{leb-tells}
 use Rattle.std.specs.declared.result.Result.{Result}
 use Rattle.std.specs.declared.result.Result.the-variants.{Ok, Err}
 use Rattle.applications.specs.App.{after}
-use Rattle.applications.specs.History.{Exchange, exchange, history}
+use Rattle.applications.specs.History.{exchange, history}
 use Rattle.applications.specs.Metre.{requestOf, metre, done, countBytes, counting}
-use Rattle.applications.specs.MetreLaws.{Metres, amount, drawCommand, Good-draw, Drawn, none, good, other}
-use Rattle.applications.specs.Outcome.{Outcome, afterOneWait}
+use Rattle.applications.specs.MetreLaws.{amount, Good-draw, Drawn, none, good, other}
+use Rattle.applications.specs.Outcome.{afterOneWait}
 use Rattle.applications.specs.Status.{wordOf}
 use Rattle.applications.specs.declared.metre.Metre.{Metre}
 use Rattle.applications.specs.declared.metre.request.Request.{Request}
@@ -22,7 +22,7 @@ use Rattle.applications.specs.declared.metre.request.Request.the-variants.{Dra
 use Rattle.applications.specs.declared.status.StatusWord.{StatusWord}
 use Rattle.applications.specs.declared.status.StatusWord.the-variants.{Good, ConditionsNotSatisfied}
 use Rattle.applications.proofs.MetreCommands.{broughtBy, draw-request, draw-asked, draw-command}
-use Rattle.applications.proofs.Words.{two-bytes, same-word}
+use Rattle.applications.proofs.Words.{same-word}
 
 -- a good draw is what the counter was asked for
 good-draw-asked : (m : Metre) (c : List ℕ) (d : Good-draw (exchange metre m c)) → requestOf c ≡ Ok (Draw (amount (d .metres)))

@@ -1,18 +1,16 @@
 -- What the metre counter is asked for by a command that draws or asks.
-use Prim.Native.Nat.{ℕ, _+_, _-_, _*_, _<_, _≤_}
+use Prim.Native.Nat.{ℕ}
 use native.Mathlib.Omega.{arith}
-use mathlib.Core.List.{List, [], _∷_, _++_}
-use mathlib.Core.Path.{_≡_, refl, _∙_, sym, ap}
+use mathlib.Core.List.{List, []}
+use mathlib.Core.Path.{_≡_, refl}
 use lib.ListN.{length, drop, getD}
 use Rattle.std.proofs.shelf.Lists.{drop-all}
 use Rattle.std.proofs.shelf.Ways.{tells}
-use Rattle.std.specs.declared.result.Result.{Result}
-use Rattle.std.specs.declared.result.Result.the-variants.{Ok, Err}
+use Rattle.std.specs.declared.result.Result.the-variants.{Ok}
 use Rattle.applications.proofs.Heads.{named}
 use Rattle.applications.specs.Command.{class, instruction, p1, p2, lengthByte}
 use Rattle.applications.specs.Metre.{requestOf, metresOf}
 use Rattle.applications.specs.MetreLaws.{Metres, amount, drawCommand, askCommand}
-use Rattle.applications.specs.declared.metre.request.Request.{Request}
 use Rattle.applications.specs.declared.metre.request.Request.the-variants.{Draw, Ask}
 
 pub draw-request : (n : Metres) → requestOf (drawCommand n) ≡ Ok (Draw (amount n))

@@ -4,9 +4,9 @@ use native.Mathlib.Nat.{ℕ-set}
 use native.Mathlib.Omega.{arith}
 use mathlib.Core.HLevel.{isProp→PathP}
 use mathlib.Core.List.{List, [], append-assoc}
-use mathlib.Core.Path.{_≡_, _∙_, sym, ap}
+use mathlib.Core.Path.{_≡_, _∙_, sym}
 use lib.ListN.{length, take, drop, length-take, length-drop}
-use lib.Seq.{sets, sets-eq}
+use lib.Seq.{sets-eq}
 use Rattle.applications.specs.Buffer.{putAt}
 use Rattle.applications.specs.Yarn.{Wanted, readBytes, writeBytes, written, done}
 use Rattle.applications.specs.declared.status.StatusWord.{StatusWord}

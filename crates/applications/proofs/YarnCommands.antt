@@ -1,20 +1,18 @@
 -- What the yarn record is asked for by a command that reads or writes.
-use Prim.Native.Nat.{ℕ, _+_, _-_, _*_, _<_, _≤_}
+use Prim.Native.Nat.{ℕ, _+_, _≤_}
 use native.Mathlib.Omega.{arith}
-use mathlib.Core.Bool.{Bool, true, false, cond}
-use mathlib.Core.List.{List, [], _∷_, _++_}
-use mathlib.Core.Path.{_≡_, refl, _∙_, sym, ap}
-use lib.Dec.{eqb, ltb}
-use lib.ListN.{length, drop, getD, length-drop}
+use mathlib.Core.Bool.{cond}
+use mathlib.Core.List.{List}
+use mathlib.Core.Path.{_≡_, refl, ap}
+use lib.Dec.{ltb}
+use lib.ListN.{length, drop, length-drop}
 use Rattle.std.proofs.shelf.Ways.{tells}
-use Rattle.std.specs.declared.result.Result.{Result}
 use Rattle.std.specs.declared.result.Result.the-variants.{Ok, Err}
 use Rattle.applications.specs.Command.{class, instruction, p1, p2, lengthByte}
-use Rattle.applications.specs.Yarn.{Wanted, readBytes, writeBytes, requestOf, recordSize, readLength}
-use Rattle.applications.specs.YarnLaws.{offsetOf, readCommand, writeCommand}
+use Rattle.applications.specs.Yarn.{readBytes, writeBytes, requestOf, recordSize, readLength, offsetOf}
+use Rattle.applications.specs.YarnLaws.{readCommand, writeCommand}
 use Rattle.applications.proofs.Heads.{named}
-use Rattle.applications.specs.declared.status.StatusWord.{StatusWord}
-use Rattle.applications.specs.declared.status.StatusWord.the-variants.{Good, WrongLength, WrongParameters, InstructionNotSupported, ClassNotSupported}
+use Rattle.applications.specs.declared.status.StatusWord.the-variants.{WrongLength, WrongParameters}
 
 pub write-request : (p1 p2 : ℕ) (bytes : List ℕ)
     → requestOf (writeCommand p1 p2 bytes)

@@ -1,12 +1,12 @@
 -- The record remembers what good writes put there.
-use Prim.Native.Nat.{ℕ, suc, zero, _+_, _-_, _*_, _<_, _≤_}
+use Prim.Native.Nat.{ℕ, suc, zero, _+_, _-_, _<_, _≤_}
 use native.Mathlib.Nat.{add-zero}
 use native.Mathlib.Omega.{arith}
 use mathlib.Core.Bool.{Bool, true, false, cond}
-use mathlib.Core.List.{List, [], _∷_, _++_}
+use mathlib.Core.List.{List, [], _∷_}
 use mathlib.Core.Logic.{_⊎_, inl, inr, _≢_}
 use mathlib.Core.Path.{_≡_, refl, _∙_, sym, ap}
-use lib.Dec.{eqb, ltb}
+use lib.Dec.{ltb}
 use lib.ListN.{length, getD, set, length-set}
 use lib.Seq.{sets, getD-set-same, getD-set-other}
 use Rattle.std.proofs.shelf.Ways.{leb-tells}
@@ -14,14 +14,14 @@ use Rattle.std.specs.declared.result.Result.{Result}
 use Rattle.std.specs.declared.result.Result.the-variants.{Ok, Err}
 use Rattle.applications.specs.App.{after}
 use Rattle.applications.specs.Command.{p1, p2}
-use Rattle.applications.specs.History.{Exchange, exchange, history}
+use Rattle.applications.specs.History.{exchange, history}
 use Rattle.applications.specs.Status.{wordOf}
-use Rattle.applications.specs.Yarn.{Wanted, readBytes, writeBytes, requestOf, recordSize, yarn, done}
-use Rattle.applications.specs.YarnLaws.{offsetOf, Good-write, Touches, putThere, Untouched, Last-write, writeCommand}
+use Rattle.applications.specs.Yarn.{Wanted, readBytes, writeBytes, requestOf, recordSize, yarn, done, offsetOf}
+use Rattle.applications.specs.YarnLaws.{Good-write, Touches, putThere, Untouched, Last-write}
 use Rattle.applications.specs.declared.status.StatusWord.{StatusWord}
 use Rattle.applications.specs.declared.status.StatusWord.the-variants.{Good, WrongLength, WrongParameters}
 use Rattle.applications.specs.declared.yarn.Yarn.{Yarn}
-use Rattle.applications.proofs.YarnCommands.{Writes, write-request, write-asked, write-command}
+use Rattle.applications.proofs.YarnCommands.{write-request, write-asked, write-command}
 
 -- bytes put one behind the other from i on, and the places beside them
 sets-beside : (vs l : List ℕ) (i k : ℕ) → (k < i) ⊎ (i + length vs ≤ k) → getD (sets l i vs) k 0 ≡ getD l k 0

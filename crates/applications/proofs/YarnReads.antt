@@ -1,7 +1,7 @@
 -- Reads and writes within the record, and what changes it.
 use Prim.Native.Nat.{ℕ, _+_, _<_, _≤_}
 use native.Mathlib.Omega.{arith}
-use mathlib.Core.Bool.{Bool, true, false, cond}
+use mathlib.Core.Bool.{Bool, true, false}
 use mathlib.Core.List.{List, [], _∷_, _++_, append-cancel-right}
 use mathlib.Core.Logic.{_⊎_, inl, inr}
 use mathlib.Core.Path.{_≡_, refl, _∙_, sym, ap}
@@ -12,10 +12,10 @@ use Rattle.std.specs.declared.result.Result.{Result}
 use Rattle.std.specs.declared.result.Result.the-variants.{Ok, Err}
 use Rattle.applications.specs.History.{exchange}
 use Rattle.applications.specs.Status.{wordOf}
-use Rattle.applications.specs.Yarn.{Wanted, readBytes, writeBytes, requestOf, recordSize, readLength, yarn, done}
-use Rattle.applications.specs.YarnLaws.{Yarn-laws, Good-write, offsetOf, readCommand, writeCommand}
+use Rattle.applications.specs.Yarn.{Wanted, readBytes, writeBytes, requestOf, recordSize, readLength, yarn, done, offsetOf}
+use Rattle.applications.specs.YarnLaws.{Yarn-laws, Good-write, readCommand, writeCommand}
 use Rattle.applications.specs.declared.status.StatusWord.{StatusWord}
-use Rattle.applications.specs.declared.status.StatusWord.the-variants.{Good, WrongLength, WrongParameters}
+use Rattle.applications.specs.declared.status.StatusWord.the-variants.{Good, WrongParameters}
 use Rattle.applications.specs.declared.yarn.Yarn.{Yarn}
 use Rattle.applications.proofs.YarnCommands.{read-request, write-request}
 use Rattle.applications.proofs.YarnMemory.{write-asked-good, remembers}

@@ -2,12 +2,12 @@
 use Prim.Native.Nat.{ℕ, _+_, _-_, _*_, _/_, _%_}
 use mathlib.Core.Bool.{Bool, not, cond, _&&_, _||_}
 use mathlib.Core.List.{List, [], _∷_, _++_}
-use lib.Dec.{eqb, ltb, leb}
+use lib.Dec.{eqb, leb}
 use lib.ListN.{length, getD}
 use Rattle.std.specs.declared.result.Result.{Result}
 use Rattle.std.specs.declared.result.Result.the-variants.{Ok, Err}
 use Rattle.applications.specs.App.{App}
-use Rattle.applications.specs.Command.{class, instruction, p1, p2, lengthByte, judged}
+use Rattle.applications.specs.Command.{instruction, p1, p2, lengthByte, judged, headFaults}
 use Rattle.applications.specs.Outcome.{Outcome, atOnce, afterOneWait, doing}
 use Rattle.applications.specs.Status.{wordOf}
 use Rattle.applications.specs.declared.metre.Metre.{Metre}
@@ -16,7 +16,7 @@ use Rattle.applications.specs.declared.metre.request.Instruction.the-variants.
 use Rattle.applications.specs.declared.metre.request.Request.{Request}
 use Rattle.applications.specs.declared.metre.request.Request.the-variants.{Draw, Ask}
 use Rattle.applications.specs.declared.status.StatusWord.{StatusWord}
-use Rattle.applications.specs.declared.status.StatusWord.the-variants.{Good, WrongLength, ConditionsNotSatisfied, WrongParameters, InstructionNotSupported, ClassNotSupported}
+use Rattle.applications.specs.declared.status.StatusWord.the-variants.{Good, WrongLength, ConditionsNotSatisfied, WrongParameters, InstructionNotSupported}
 
 -- the instruction bytes
 abbrev pub byteOf : Instruction → ℕ
@@ -40,9 +40,8 @@ lengthFits c = eqb (lengthByte c) 4 && eqb (length c) (cond (draws c) 9 5)
 -- the faults of a command, in the order of judgement
 abbrev pub faults : List ℕ → List (Bool × StatusWord)
 faults c =
-    (ltb (length c) 4, WrongLength)
-    ∷ (not (eqb (class c) 0x80), ClassNotSupported)
-    ∷ (not (draws c || asks c), InstructionNotSupported)
+    headFaults 0x80 c
+    ++ (not (draws c || asks c), InstructionNotSupported)
     ∷ (not (eqb (p1 c) 0x00 && eqb (p2 c) 0x00), WrongParameters)
     ∷ (not (lengthFits c), WrongLength)
     ∷ []

@@ -2,7 +2,7 @@
 use Prim.Native.Nat.{ℕ, _+_, _*_}
 use mathlib.Core.Bool.{Bool, not, cond, _&&_, _||_}
 use mathlib.Core.List.{List, [], _∷_, _++_}
-use mathlib.Core.Path.{_≡_, _∙_}
+use mathlib.Core.Path.{_∙_}
 use denote.Ref.{now}
 use lib.Dec.{eqb, ltb}
 use lib.ListN.{length, take, drop}
@@ -10,11 +10,11 @@ use lib.Seq.{sets, length-sets}
 use Rattle.std.specs.declared.result.Result.{Result}
 use Rattle.std.specs.declared.result.Result.the-variants.{Ok, Err}
 use Rattle.applications.specs.App.{App}
-use Rattle.applications.specs.Command.{class, instruction, p1, p2, lengthByte, judged}
+use Rattle.applications.specs.Command.{instruction, p1, p2, lengthByte, judged, headFaults}
 use Rattle.applications.specs.Outcome.{Outcome, atOnce, doing}
 use Rattle.applications.specs.Status.{wordOf}
 use Rattle.applications.specs.declared.status.StatusWord.{StatusWord}
-use Rattle.applications.specs.declared.status.StatusWord.the-variants.{Good, WrongLength, WrongParameters, InstructionNotSupported, ClassNotSupported}
+use Rattle.applications.specs.declared.status.StatusWord.the-variants.{Good, WrongLength, WrongParameters, InstructionNotSupported}
 use Rattle.applications.specs.declared.yarn.Yarn.{Yarn}
 use Rattle.applications.specs.declared.yarn.request.Instruction.{Instruction}
 use Rattle.applications.specs.declared.yarn.request.Instruction.the-variants.{ReadBinary, UpdateBinary}
@@ -50,10 +50,14 @@ pub data Wanted : Type 0 where
 abbrev pub readLength : ℕ → ℕ
 readLength le = cond (eqb le 0) 256 le
 
--- the offset stands in the two parameter bytes, and what is written behind the length byte
+-- the offset stands in the two parameter bytes, high byte first
+abbrev pub offsetOf : ℕ → ℕ → ℕ
+offsetOf p1 p2 = p1 * 256 + p2
+
+-- what is written stands behind the length byte
 abbrev pub wantedBy : List ℕ → Wanted
 wantedBy c =
-    let offset : ℕ = p1 c * 256 + p2 c in
+    let offset : ℕ = offsetOf (p1 c) (p2 c) in
     cond (reads c) (readBytes offset (readLength (lengthByte c))) (writeBytes offset (drop 5 c))
 
 -- the place behind the last byte that is read or written
@@ -72,9 +76,8 @@ pastEnd w = (ltb recordSize (endOf w), WrongParameters)
 -- the faults of a command, in the order of judgement
 abbrev pub faults : List ℕ → List (Bool × StatusWord)
 faults c =
-    (ltb (length c) 4, WrongLength)
-    ∷ (not (eqb (class c) 0x00), ClassNotSupported)
-    ∷ (not (reads c || writes c), InstructionNotSupported)
+    headFaults 0x00 c
+    ++ (not (reads c || writes c), InstructionNotSupported)
     ∷ (not (lengthFits c), WrongLength)
     ∷ pastEnd (wantedBy c)
     ∷ []

@@ -1,5 +1,5 @@
 -- What a yarn record promises to whoever reads and writes it, over any sequence of commands.
-use Prim.Native.Nat.{ℕ, _+_, _-_, _*_, _<_, _≤_}
+use Prim.Native.Nat.{ℕ, _+_, _-_, _<_, _≤_}
 use mathlib.Core.List.{List, [], _∷_, _++_}
 use mathlib.Core.Logic.{_⊎_}
 use mathlib.Core.Path.{_≡_}
@@ -7,13 +7,9 @@ use lib.ListN.{length, take, drop, getD}
 use Rattle.applications.specs.App.{App, after}
 use Rattle.applications.specs.History.{Exchange, exchange, history}
 use Rattle.applications.specs.Status.{wordOf}
-use Rattle.applications.specs.Yarn.{recordSize, readLength}
+use Rattle.applications.specs.Yarn.{recordSize, offsetOf, readLength}
 use Rattle.applications.specs.declared.status.StatusWord.the-variants.{Good}
 use Rattle.applications.specs.declared.yarn.Yarn.{Yarn}
-
--- the two parameter bytes are an offset, high byte first
-abbrev pub offsetOf : ℕ → ℕ → ℕ
-offsetOf p1 p2 = p1 * 256 + p2
 
 -- the command that reads: class 00, instruction B0, the offset and how many bytes are wanted
 abbrev pub readCommand : (p1 p2 le : ℕ) → List ℕ

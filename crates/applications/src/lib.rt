@@ -1,6 +1,7 @@
 // What runs on a card above the protocol: the interface, and two applications.
 mod answer;
 mod application;
+mod command;
 mod laws;
 mod metre;
 mod status;

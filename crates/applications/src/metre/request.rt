@@ -1,6 +1,7 @@
 // What a command wants of the metre counter.
 ghost use mathlib.Core.Path.{_≡_};
 ghost use Rattle.applications.specs.Metre.{instructionOf, requestOf};
+use crate::command::Command;
 use crate::status::StatusWord;
 
 const CLASS: u8 = 0x80;
@@ -34,17 +35,12 @@ impl Request {
     pub(super) fn read(command: &[u8]) -> Result<Request, StatusWord>
         ensures { λ r. ⌜ r ≡ requestOf (now (command .entry)) ⌝ }
     {
-        let [class, instruction, p1, p2, body @ ..] = command else {
-            return Err(StatusWord::WrongLength);
-        };
-        if *class != CLASS {
-            return Err(StatusWord::ClassNotSupported);
-        }
-        let instruction = Instruction::of(*instruction)?;
-        if *p1 != 0 || *p2 != 0 {
+        let command = Command::of_class(CLASS, command)?;
+        let instruction = Instruction::of(command.instruction)?;
+        if command.p1 != 0 || command.p2 != 0 {
             return Err(StatusWord::WrongParameters);
         }
-        match (instruction, body) {
+        match (instruction, command.body) {
             (Instruction::DrawMetres, [4, a, b, c, d]) => Ok(Request::Draw(u32::from_be_bytes([
                 *a,
                 *b,

@@ -4,6 +4,7 @@ ghost use mathlib.Core.Path.{_≡_};
 ghost use Rattle.applications.specs.Command.{judged};
 ghost use Rattle.applications.specs.Yarn.{instructionOf, readLength, wanted, asWanted, pastEnd, requestOf};
 use super::RECORD_SIZE;
+use crate::command::Command;
 use crate::status::StatusWord;
 
 const CLASS: u8 = 0x00;
@@ -44,15 +45,10 @@ impl<'a> Request<'a> {
     pub(super) fn read(command: &'a [u8]) -> Result<Request<'a>, StatusWord>
         ensures { λ r. ⌜ asWanted r ≡ requestOf (now (command .entry)) ⌝ }
     {
-        let [class, instruction, p1, p2, body @ ..] = command else {
-            return Err(StatusWord::WrongLength);
-        };
-        if *class != CLASS {
-            return Err(StatusWord::ClassNotSupported);
-        }
-        let instruction = Instruction::of(*instruction)?;
-        let offset = usize::from(*p1) * 256 + usize::from(*p2);
-        match (instruction, body) {
+        let command = Command::of_class(CLASS, command)?;
+        let instruction = Instruction::of(command.instruction)?;
+        let offset = usize::from(command.p1) * 256 + usize::from(command.p2);
+        match (instruction, command.body) {
             (Instruction::ReadBinary, [le]) => {
                 let len = read_length(*le);
                 Request::Read { offset, len }.within_record()
