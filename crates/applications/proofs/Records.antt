@@ -27,6 +27,7 @@ same-record x y e =
 -- bytes put into the record by one copy
 pub put-is-written : (y after : Yarn) (offset : ℕ) (bytes : List ℕ)
     → offset + length bytes ≤ 128 → after .bytes ≡ putAt offset bytes (y .bytes) → after ≡ written y offset bytes
+unfolding written
 put-is-written y after offset bytes within e =
     let fits : offset + length bytes ≤ length (y .bytes) = rw (y .full) within in
     same-record after (written y offset bytes) (e ∙ sym (append-assoc (take offset (y .bytes)) bytes (drop (offset + length bytes) (y .bytes))) ∙ sym (sets-eq bytes (y .bytes) offset fits))

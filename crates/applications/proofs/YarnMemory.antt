@@ -16,7 +16,7 @@ use Rattle.applications.specs.App.{after}
 use Rattle.applications.specs.Command.{p1, p2}
 use Rattle.applications.specs.History.{exchange, history}
 use Rattle.applications.specs.Status.{wordOf}
-use Rattle.applications.specs.Yarn.{Wanted, readBytes, writeBytes, requestOf, recordSize, yarn, done, offsetOf}
+use Rattle.applications.specs.Yarn.{Wanted, readBytes, writeBytes, requestOf, recordSize, written, yarn, done, offsetOf}
 use Rattle.applications.specs.YarnLaws.{Good-write, Touches, putThere, Untouched, Last-write}
 use Rattle.applications.specs.declared.status.StatusWord.{StatusWord}
 use Rattle.applications.specs.declared.status.StatusWord.the-variants.{Good, WrongLength, WrongParameters}
@@ -84,6 +84,7 @@ no-write y c k r asked same other =
 
 written-there : (y : Yarn) (c : List ℕ) (k : ℕ) → k < recordSize → (offset : ℕ) (bytes : List ℕ)
     → requestOf c ≡ Ok (writeBytes offset bytes) → offset ≤ k → k < offset + length bytes → Put y c k
+unfolding written
 written-there y c k within offset bytes asked low high =
     let w = write-asked-good y c offset bytes asked in
     let at : offset ≡ offsetOf (p1 c) (p2 c) = write-asked c offset bytes asked .at in
@@ -97,6 +98,7 @@ written-there y c k within offset bytes asked low high =
 
 written-beside : (y : Yarn) (c : List ℕ) (k : ℕ) (offset : ℕ) (bytes : List ℕ)
     → requestOf c ≡ Ok (writeBytes offset bytes) → (k < offset) ⊎ (offset + length bytes ≤ k) → Kept y c k
+unfolding written
 written-beside y c k offset bytes asked beside = (
   (λ w t.
       let e : Ok (writeBytes offset bytes) ≡ Ok (writeBytes (offsetOf (w .p1) (w .p2)) (w .bytes)) = sym asked ∙ good-write-asked y c w in

@@ -95,7 +95,7 @@ asWanted (Ok request) = Ok (wanted request)
 asWanted (Err status) = Err status
 
 -- the record with bytes put into it, one behind the other from an offset on
-abbrev pub written : Yarn → ℕ → List ℕ → Yarn
+unfoldable pub written : Yarn → ℕ → List ℕ → Yarn
 written y offset bytes = record {
   bytes = sets (y .bytes) offset bytes;
   full = length-sets (y .bytes) offset bytes ∙ y .full;
