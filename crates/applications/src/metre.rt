@@ -10,6 +10,9 @@ use request::Request;
 
 mod request;
 
+// The multiplier of the wait before a draw's answer.
+const DRAW_MULTIPLIER: u8 = 2;
+
 #[derive(Drop)]
 pub struct Metre {
     count: u32,
@@ -50,13 +53,13 @@ pub impl Application for Metre as MetreApplication {
         match Request::read(command) {
             Ok(Request::Draw(metres)) => {
                 let status = self.draw(metres);
-                Reply::after_one_wait(2, put_answer(answer, &self.count.to_be_bytes(), status))
+                let count = self.count.to_be_bytes();
+                Reply::after_one_wait(DRAW_MULTIPLIER, put_answer(answer, &count, status))
             }
-            Ok(Request::Ask) => Reply::at_once(put_answer(
-                answer,
-                &self.count.to_be_bytes(),
-                StatusWord::Good,
-            )),
+            Ok(Request::Ask) => {
+                let count = self.count.to_be_bytes();
+                Reply::at_once(put_answer(answer, &count, StatusWord::Good))
+            }
             Err(status) => Reply::at_once(put_answer(answer, &[], status)),
         }
     }

@@ -6,6 +6,9 @@ use crate::status::StatusWord;
 
 const CLASS: u8 = 0x80;
 
+// A count has four bytes, high first.
+const COUNT_SIZE: u8 = 4;
+
 #[derive(Clone, Copy)]
 pub enum Instruction {
     DrawMetres,
@@ -41,13 +44,11 @@ impl Request {
             return Err(StatusWord::WrongParameters);
         }
         match (instruction, command.body) {
-            (Instruction::DrawMetres, [4, a, b, c, d]) => Ok(Request::Draw(u32::from_be_bytes([
-                *a,
-                *b,
-                *c,
-                *d,
-            ]))),
-            (Instruction::AskCount, [4]) => Ok(Request::Ask),
+            (Instruction::DrawMetres, [COUNT_SIZE, a, b, c, d]) => {
+                let metres = u32::from_be_bytes([*a, *b, *c, *d]);
+                Ok(Request::Draw(metres))
+            }
+            (Instruction::AskCount, [COUNT_SIZE]) => Ok(Request::Ask),
             _ => Err(StatusWord::WrongLength),
         }
     }
