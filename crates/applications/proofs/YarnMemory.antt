@@ -17,7 +17,7 @@ use Rattle.applications.specs.Command.{p1, p2}
 use Rattle.applications.specs.History.{exchange, history}
 use Rattle.applications.specs.Status.{wordOf}
 use Rattle.applications.specs.Yarn.{Wanted, readBytes, writeBytes, requestOf, recordSize, written, yarn, done, offsetOf}
-use Rattle.applications.specs.YarnLaws.{Good-write, Touches, putThere, Untouched, Last-write}
+use Rattle.applications.specs.YarnLaws.{Good-write, Touches, putThere, Stands}
 use Rattle.applications.specs.declared.status.StatusWord.{StatusWord}
 use Rattle.applications.specs.declared.status.StatusWord.the-variants.{Good, WrongLength, WrongParameters}
 use Rattle.applications.specs.declared.yarn.Yarn.{Yarn}
@@ -128,14 +128,11 @@ step y c k within (Err status) asked =
     inl (no-write y c k _ asked refl (λ o bs e. let z : _≡_ {A = ℕ} 0 1 = cc in omega arith))
 
 -- after any commands
-abbrev Stands : Yarn → List (List ℕ) → ℕ → Type 0
-Stands y cs k =
-    let byte : ℕ = getD (after yarn y cs .bytes) k 0 in
-    (Untouched k (history yarn y cs) × (byte ≡ getD (y .bytes) k 0))
-    ⊎ ((l : Last-write k (history yarn y cs)) × (byte ≡ putThere (l .write) k))
+abbrev pub Remembers : Yarn → List (List ℕ) → ℕ → Type 0
+Remembers y cs k = Stands k (getD (y .bytes) k 0) (history yarn y cs) (getD (after yarn y cs .bytes) k 0)
 
 -- one command more in front
-before-all : (y : Yarn) (c : List ℕ) (cs : List (List ℕ)) (k : ℕ) → Kept y c k ⊎ Put y c k → Stands (yarn .next y c) cs k → Stands y (c ∷ cs) k
+before-all : (y : Yarn) (c : List ℕ) (cs : List (List ℕ)) (k : ℕ) → Kept y c k ⊎ Put y c k → Remembers (yarn .next y c) cs k → Remembers y (c ∷ cs) k
 before-all y c cs k one (inr (l, byte)) =
     inr (
       record {
@@ -164,7 +161,7 @@ before-all y c cs k (inr put) (inl later) =
       later .1 ∙ put .2,
     )
 
-pub remembers : (y : Yarn) (cs : List (List ℕ)) (k : ℕ) → k < recordSize → Stands y cs k
+pub remembers : (y : Yarn) (cs : List (List ℕ)) (k : ℕ) → k < recordSize → Remembers y cs k
 remembers y [] k within = inl (tt, refl)
 remembers y (c ∷ cs) k within =
     before-all y c cs k (step y c k within (requestOf c) refl) (remembers (yarn .next y c) cs k within)

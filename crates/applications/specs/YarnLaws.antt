@@ -50,20 +50,28 @@ pub record Last-write (k : ℕ) (h : List Exchange) : Type 0 where
   pub touches : Touches write k
   pub untouched : Untouched k later
 
+-- the byte that stands at a place after a history: the one that the last good write touching it put there, or, where
+-- none touched it, the one that it started with
+abbrev pub Stands : (place start : ℕ) → List Exchange → (byte : ℕ) → Type 0
+Stands k start h byte = (Untouched k h × (byte ≡ start)) ⊎ ((l : Last-write k h) × (byte ≡ putThere (l .write) k))
+
 pub record Yarn-laws (a : App Yarn) : Type 0 where
-  -- after any commands, each byte of the record is the one that the last good write touching it put there, or, where
-  -- none touched it, the one that it started with
+  -- after any commands, each byte of the record is the one that stands there
   pub remembers :
       (y : Yarn) (cs : List (List ℕ)) (k : ℕ) → k < recordSize
-      → let byte : ℕ = getD (after a y cs .bytes) k 0 in
-      (Untouched k (history a y cs) × (byte ≡ getD (y .bytes) k 0))
-      ⊎ ((l : Last-write k (history a y cs)) × (byte ≡ putThere (l .write) k))
+      → Stands k (getD (y .bytes) k 0) (history a y cs) (getD (after a y cs .bytes) k 0)
   -- nothing but a good write changes a byte
   pub only-writes-change : (y : Yarn) (c : List ℕ) → (a .next y c ≡ y) ⊎ Good-write (exchange a y c)
   -- a good read lies within the record and returns exactly the bytes that stand there
   pub reads-exactly :
       (y : Yarn) (p1 p2 le : ℕ) (bytes : List ℕ) → a .answer y (readCommand p1 p2 le) ≡ bytes ++ wordOf Good
       → (offsetOf p1 p2 + readLength le ≤ recordSize) × (bytes ≡ take (readLength le) (drop (offsetOf p1 p2) (y .bytes)))
+  -- so a good read after any commands returns at each of its places the byte that stands there
+  pub reads-back :
+      (y : Yarn) (cs : List (List ℕ)) (p1 p2 le : ℕ) (bytes : List ℕ)
+      → a .answer (after a y cs) (readCommand p1 p2 le) ≡ bytes ++ wordOf Good
+      → (j : ℕ) → j < readLength le
+      → Stands (offsetOf p1 p2 + j) (getD (y .bytes) (offsetOf p1 p2 + j) 0) (history a y cs) (getD bytes j 0)
   -- a read within the record is good
   pub reads-within :
       (y : Yarn) (p1 p2 le : ℕ) → offsetOf p1 p2 + readLength le ≤ recordSize
