@@ -23,6 +23,7 @@ abbrev pub byteOf : Instruction → ℕ
 byteOf DrawMetres = 0x10
 byteOf AskCount = 0x12
 
+-- a byte read as an instruction
 abbrev pub instructionOf : ℕ → Result Instruction StatusWord
 instructionOf b =
     cond (eqb b (byteOf DrawMetres)) (Ok DrawMetres) (cond (eqb b (byteOf AskCount)) (Ok AskCount) (Err InstructionNotSupported))
@@ -54,6 +55,7 @@ numberOf a b c d = a * 16777216 + b * 65536 + c * 256 + d
 abbrev pub metresOf : List ℕ → ℕ
 metresOf c = numberOf (getD c 5 0) (getD c 6 0) (getD c 7 0) (getD c 8 0)
 
+-- a request, or the status word of the first fault
 abbrev pub requestOf : List ℕ → Result Request StatusWord
 requestOf c = judged (faults c) (cond (draws c) (Draw (metresOf c)) Ask)
 
@@ -61,6 +63,7 @@ requestOf c = judged (faults c) (cond (draws c) (Draw (metresOf c)) Ask)
 abbrev pub countBytes : ℕ → List ℕ
 countBytes n = n / 16777216 % 256 ∷ n / 65536 % 256 ∷ n / 256 % 256 ∷ n % 256 ∷ []
 
+-- a counter with this count
 abbrev pub counting : ℕ → Metre
 counting n = record { count = n }
 

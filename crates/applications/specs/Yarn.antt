@@ -30,6 +30,7 @@ abbrev pub byteOf : Instruction → ℕ
 byteOf ReadBinary = 0xB0
 byteOf UpdateBinary = 0xD6
 
+-- a byte read as an instruction
 abbrev pub instructionOf : ℕ → Result Instruction StatusWord
 instructionOf b =
     cond (eqb b (byteOf ReadBinary)) (Ok ReadBinary)
@@ -82,10 +83,11 @@ faults c =
     ∷ pastEnd (wantedBy c)
     ∷ []
 
+-- a request, or the status word of the first fault
 abbrev pub requestOf : List ℕ → Result Wanted StatusWord
 requestOf c = judged (faults c) (wantedBy c)
 
--- what a request of the code wants
+-- what a request that the code read wants
 abbrev pub wanted : Request → Wanted
 wanted (Read offset len) = readBytes offset len
 wanted (Write offset bytes) = writeBytes offset (now bytes)
