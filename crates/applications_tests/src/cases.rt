@@ -10,7 +10,7 @@ pub struct Case(pub &'static [u8], pub &'static [u8]);
 const UNTOUCHED: u8 = 0xee;
 
 // Gives the application a command and compares all that it does, the buffer behind the answer too.
-pub fn check_answer<A: Application>(
+pub(crate) fn check_answer<A: Application>(
     app: &mut A,
     command: &[u8],
     answer: &[u8],
@@ -32,7 +32,7 @@ pub fn check_answer<A: Application>(
 }
 
 // The commands of a table one after the other, all with the same waits.
-pub fn check_table<A: Application>(
+pub(crate) fn check_table<A: Application>(
     app: &mut A,
     table: &[Case],
     waits: u8,
