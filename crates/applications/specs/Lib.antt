@@ -1,1 +1,10 @@
 pub mod App
+pub mod Buffer
+pub mod Command
+pub mod History
+pub mod Metre
+pub mod MetreLaws
+pub mod Outcome
+pub mod Status
+pub mod Yarn
+pub mod YarnLaws

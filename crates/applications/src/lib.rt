@@ -1,10 +1,20 @@
-// What runs on a card above the protocol.
-ghost use mathlib.Core.Path.{_≡_};
-ghost use Rattle.applications.specs.App.{App, Keeps};
+// What runs on a card above the protocol: the interface, and two applications.
+mod answer;
+mod application;
+mod command;
+mod laws;
+mod metre;
+mod status;
+mod yarn;
 
-// An application on a card. A command of 1 to 261 bytes and the state fix everything that it does.
-pub trait Application {
-    ghost model: { App Self };
-
-    law keeps: { Keeps model };
-}
+pub use application::Application;
+pub use application::LONGEST_ANSWER;
+pub use application::Reply;
+pub use laws::metre_laws_hold;
+pub use laws::yarn_laws_hold;
+pub use metre::Metre;
+pub use metre::MetreApplication;
+pub use status::StatusWord;
+pub use yarn::RECORD_SIZE;
+pub use yarn::Yarn;
+pub use yarn::YarnApplication;

@@ -1,0 +1,11 @@
+pub mod Bounds
+pub mod Buffers
+pub mod Heads
+pub mod MetreBooks
+pub mod MetreCommands
+pub mod MetreDraws
+pub mod Records
+pub mod Words
+pub mod YarnCommands
+pub mod YarnMemory
+pub mod YarnReads
