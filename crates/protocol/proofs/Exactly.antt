@@ -305,7 +305,7 @@ module _ (laws : Laws) {S : Type 0} (u : Setup S) (s₀ : S) (G : Ground (u .rea
       let tu = turns u s₀ laws G keeps dsi dri ts f ph e can in
       (turn-doubt u s₀ laws G keeps dsi dri ts f tu t d, turn-elsewhere u s₀ tu)
 
-  can-hear : {c : Call} {e : Event} (w : World S) → Takes c e → CanCome w c → CanHear (w .answer) e
+  pub can-hear : {c : Call} {e : Event} (w : World S) → Takes c e → CanCome w c → CanHear (w .answer) e
   can-hear w (by-bytes f room) can = can
   can-hear w (by-silence room) can = tt
 
@@ -322,7 +322,7 @@ module _ (laws : Laws) {S : Type 0} (u : Setup S) (s₀ : S) (G : Ground (u .rea
   same-comes w v (by-silence room) e can = tt
 
   -- a call that takes an event is heard by its stage
-  event-move : {c : Call} {e : Event} (r : Reader) → Takes c e → accepted (doCall (u .reader) r c .outcome) ≡ true → (listens r ≡ true) × (doCall (u .reader) r c ≡ hear (u .reader) (r .stage) r e)
+  pub event-move : {c : Call} {e : Event} (r : Reader) → Takes c e → accepted (doCall (u .reader) r c .outcome) ≡ true → (listens r ≡ true) × (doCall (u .reader) r c ≡ hear (u .reader) (r .stage) r e)
   event-move r (by-bytes f room) a = guarded-taken (listens r) room greatestFrame r (hear (u .reader) (r .stage) r (bytes f)) a
   event-move r (by-silence room) a = guarded-taken (listens r) room greatestFrame r (hear (u .reader) (r .stage) r noBytes) a
 

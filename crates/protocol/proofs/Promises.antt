@@ -110,7 +110,7 @@ true-either : (b : Bool) (m n : Move) (fs : List (List ℕ)) → TotalsTrue (m .
 true-either true m n fs h k = h
 true-either false m n fs h k = k
 
-wrote-over : (f : List ℕ) (n : ℕ) (e : Ending) (y : Says) (t : Totals) → wrote f n ≡ over e y t → ⊥
+pub wrote-over : (f : List ℕ) (n : ℕ) (e : Ending) (y : Says) (t : Totals) → wrote f n ≡ over e y t → ⊥
 wrote-over f n e y t h = let z : _≡_ {A = ℕ} 0 1 = cc in omega arith
 
 answered-over : (n : ℕ) (s : Says) (k : Totals) (e : Ending) (y : Says) (t : Totals) → answered n s k ≡ over e y t → ⊥
@@ -216,3 +216,17 @@ module _ (laws : Laws) {S : Type 0} (u : Setup S) (s₀ : S) (G : Ground (u .rea
       (λ e. stop-totals (busy-of u s₀ (p .now .reader .stage) p (I .stage) e))
   totals-of p I (close room) h = true-guarded (mayClose (p .now .reader)) room greatestFrame (p .now .reader) (closes (p .now .reader)) (writtenIn (p .log)) (λ e. tt)
   totals-of p I (fetch room) h = true-guarded (not (isAt closed (p .now .reader))) room longestAnswer (p .now .reader) (record { reader = p .now .reader; outcome = fetched (p .now .reader .exchange .answer) }) (writtenIn (p .log)) (λ e. tt)
+
+  -- an exchange that ends against the reader's will
+  pub ends-of : {p : Past S} {c : Call} {e : Event} (fate : Fate) (n : Ending) (y : Says) (k : Totals) → BusyInv u s₀ p → Takes c e → CanHear (p .now .answer) e
+      → doCall (u .reader) (p .now .reader) c ≡ hear (u .reader) (p .now .reader .stage) (p .now .reader) e
+      → doCall (u .reader) (p .now .reader) c .outcome ≡ over n y k
+      → NoneWorse (u .reader .repeats / 2) (pastStep u p (record { call = c; fate = fate }) .log .turns)
+      → badTurns (pastStep u p (record { call = c; fate = fate }) .log .turns) + latestWaits (u .app) s₀ (pastStep u p (record { call = c; fate = fate }) .begun) ≤ u .reader .waits
+      → ⊥
+  ends-of {p} {c} {e} fate n y k (in-phase {dsi} {dri} {ts = ts} {f = f} ph C) t can m o calm few =
+      let tu = turns u s₀ laws G keeps dsi dri ts f ph e can in
+      let is = ap (pastOf u p (record { call = c; fate = fate })) m ∙ turn-past u t p fate (hear (u .reader) busy (p .now .reader) e) refl (turn-accepted u s₀ tu) in
+      turn-ends u s₀ n y k tu C (sym (ap (λ (v : Move). v .outcome) m) ∙ o)
+      (subst (λ (v : Past S). NoneWorse (u .reader .repeats / 2) (v .log .turns)) is calm)
+      (subst (λ (v : Past S). badTurns (v .log .turns) + latestWaits (u .app) s₀ (v .begun) ≤ u .reader .waits) is few)
