@@ -1,0 +1,3 @@
+pub mod Ats
+pub mod Pps
+pub mod Rats
