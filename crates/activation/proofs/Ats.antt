@@ -4,14 +4,14 @@ use mathlib.Core.Bool.{true, false, not}
 use mathlib.Core.Path.{_≡_}
 use native.Mathlib.Omega.{arith}
 use lib.Bits.{bitAnd, and-block, and-zero-r}
-use lib.Dec.{eqb, leb, ltb}
+use lib.Dec.{eqb, ltb}
 use lib.ListN.{length}
 use Rattle.std.proofs.shelf.Tests.{le-leb, lt-ltb, le-ltb, eq-eqb}
 use Rattle.frames.specs.Reading.{has}
 use Rattle.frames.specs.Sizes.{greatestCode}
 use Rattle.activation.specs.Ats.{lengthByteGood, atsOf, t0Good, hasTa, hasTb, hasTc}
 use Rattle.activation.specs.Laws.{Reads-ats}
-use Rattle.activation.proofs.Rats.{upper, lower}
+use Rattle.activation.proofs.Parts.{upper, lower}
 
 -- a bit of the upper half of a byte does not depend on the lower half
 in-upper : (w h low : ℕ) → low < 16 → has (w * 2 ^ 4 + 0) (h * 2 ^ 4 + low) ≡ not (eqb (bitAnd h w * 2 ^ 4 + 0) 0)

@@ -1,0 +1,5 @@
+use Rattle.activation.proofs.Pps.{reads-pps-answer, takes-pps-answer}
+use Rattle.activation.proofs.laws.pps_response_is_taken.Needs as need
+
+pub returns : need.returns
+returns c = record { taken = takes-pps-answer; only = reads-pps-answer }

@@ -1,0 +1,5 @@
+use Rattle.activation.proofs.Rats.{reads-rats, reads-only-rats}
+use Rattle.activation.proofs.laws.rats_is_read.Needs as need
+
+pub returns : need.returns
+returns c = record { read = reads-rats; only = reads-only-rats }

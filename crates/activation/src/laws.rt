@@ -1,0 +1,25 @@
+// What one end writes the other reads, and reads nothing else for it.
+ghost use Rattle.activation.specs.Laws.{Reads-rats, Reads-only-rats};
+ghost use Rattle.activation.specs.Laws.{Reads-ats, Good-is-valid, Good-is-whole};
+ghost use Rattle.activation.specs.Laws.{Reads-pps, Reads-only-pps, Reads-pps-answer, Takes-pps-answer};
+
+pub fn rats_is_read()
+    ensures read { λ _. ⌜ Reads-rats ⌝ }
+    ensures only { λ _. ⌜ Reads-only-rats ⌝ }
+{}
+
+pub fn ats_is_read()
+    ensures read { λ _. ⌜ Reads-ats ⌝ }
+    ensures valid { λ _. ⌜ Good-is-valid ⌝ }
+    ensures whole { λ _. ⌜ Good-is-whole ⌝ }
+{}
+
+pub fn pps_is_read()
+    ensures read { λ _. ⌜ Reads-pps ⌝ }
+    ensures only { λ _. ⌜ Reads-only-pps ⌝ }
+{}
+
+pub fn pps_response_is_taken()
+    ensures taken { λ _. ⌜ Takes-pps-answer ⌝ }
+    ensures only { λ _. ⌜ Reads-pps-answer ⌝ }
+{}
