@@ -18,10 +18,10 @@ part-overwritten at n old bytes now e long =
 pub over-more : (front bytes old : List ℕ) (at : ℕ) → at ≡ length front → overAt at bytes (over front old) ≡ over (front ++ bytes) old
 over-more front bytes old at e =
     let behind : drop (at + length bytes) (over front old) ≡ drop (length (front ++ bytes)) old =
-        sym (drop-drop (length bytes) at (over front old))
-        ∙ ap (λ l. drop (length bytes) l) (drop-at front (drop (length front) old) at (sym e))
-        ∙ drop-drop (length bytes) (length front) old
-        ∙ ap (λ k. drop k old) (sym (length-append front bytes)) in
+    sym (drop-drop (length bytes) at (over front old))
+    ∙ ap (λ l. drop (length bytes) l) (drop-at front (drop (length front) old) at (sym e))
+    ∙ drop-drop (length bytes) (length front) old
+    ∙ ap (λ k. drop k old) (sym (length-append front bytes)) in
     ap₂ (λ a b. a ++ (bytes ++ b)) (take-at front (drop (length front) old) at (sym e)) behind
     ∙ sym (append-assoc front bytes (drop (length (front ++ bytes)) old))
 
