@@ -1,7 +1,11 @@
 pub mod Blocks
 pub mod Causes
 pub mod Check
+pub mod Faults
 pub mod Laws
 pub mod Reading
 pub mod Refusals
+pub mod Refused
+pub mod Sealing
 pub mod Sizes
+pub mod Views

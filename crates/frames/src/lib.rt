@@ -1,10 +1,12 @@
-// Frames and blocks of ISO/IEC 14443-4, Type A.
-ghost use mathlib.Core.Path.{_≡_};
-ghost use Rattle.frames.specs.Reading.{kindOf};
-ghost use Rattle.frames.specs.Laws.{Two-more};
+// Frames and blocks of ISO/IEC 14443-4, Type A: the check, the control byte, blocks and their frames.
+mod check;
+mod fault;
+mod frame;
+mod refusal;
 
-pub fn one() -> u8
-    ensures { λ r. ⌜ r ≡ 1 ⌝ }
-{
-    1
-}
+pub use fault::FrameFault;
+pub use frame::GREATEST_FRAME;
+pub use frame::LONGEST_BODY;
+pub use frame::seal;
+pub use frame::unseal;
+pub use refusal::Refusal;
