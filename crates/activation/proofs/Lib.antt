@@ -1,6 +1,6 @@
-pub mod Ats
 pub mod Judged
 mod Parts
-pub mod Pps
-pub mod Rats
+pub mod ReadsAts
+pub mod ReadsPps
+pub mod ReadsRats
 pub mod Whole

@@ -1,3 +1,6 @@
 // RATS, ATS and PPS: the formats by which a reader wakes a card.
-
 pub mod laws;
+mod request;
+
+pub use request::Rats;
+pub use request::rats_of;

@@ -1,4 +1,4 @@
-use Rattle.activation.proofs.Ats.{reads-ats}
+use Rattle.activation.proofs.ReadsAts.{reads-ats}
 use Rattle.activation.proofs.Judged.{good-is-valid}
 use Rattle.activation.proofs.Whole.{good-is-whole}
 use Rattle.activation.proofs.laws.ats_is_read.Needs as need

@@ -1,4 +1,4 @@
-use Rattle.activation.proofs.Pps.{reads-pps, reads-only-pps}
+use Rattle.activation.proofs.ReadsPps.{reads-pps, reads-only-pps}
 use Rattle.activation.proofs.laws.pps_is_read.Needs as need
 
 pub returns : need.returns

@@ -1,4 +1,4 @@
-use Rattle.activation.proofs.Pps.{reads-pps-answer, takes-pps-answer}
+use Rattle.activation.proofs.ReadsPps.{reads-pps-answer, takes-pps-answer}
 use Rattle.activation.proofs.laws.pps_response_is_taken.Needs as need
 
 pub returns : need.returns

@@ -1,4 +1,4 @@
-use Rattle.activation.proofs.Rats.{reads-rats, reads-only-rats}
+use Rattle.activation.proofs.ReadsRats.{reads-rats, reads-only-rats}
 use Rattle.activation.proofs.laws.rats_is_read.Needs as need
 
 pub returns : need.returns
