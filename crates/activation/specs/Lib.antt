@@ -1,5 +1,7 @@
 pub mod Ats
+pub mod Heard
 pub mod Laws
 pub mod Pps
 pub mod Rats
 pub mod Views
+pub mod Writing

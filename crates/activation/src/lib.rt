@@ -4,3 +4,5 @@ mod request;
 
 pub use request::Rats;
 pub use request::rats_of;
+pub use request::read_rats;
+pub use request::write_rats;
