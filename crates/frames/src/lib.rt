@@ -2,6 +2,7 @@
 mod check;
 mod fault;
 mod frame;
+mod kind;
 mod refusal;
 
 pub use fault::FrameFault;
