@@ -2,6 +2,7 @@ pub mod Blocks
 pub mod Causes
 pub mod Check
 pub mod Faults
+pub mod Kinds
 pub mod Laws
 pub mod Reading
 pub mod Refusals

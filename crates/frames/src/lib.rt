@@ -2,9 +2,14 @@
 mod check;
 mod fault;
 mod frame;
+mod kind;
 mod refusal;
 
+pub use fault::BlockFault;
+pub use fault::Cause;
 pub use fault::FrameFault;
+pub use fault::FrameIntoBlock;
+pub use fault::Layer;
 pub use frame::GREATEST_FRAME;
 pub use frame::LONGEST_BODY;
 pub use frame::seal;
