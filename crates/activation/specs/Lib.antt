@@ -1,4 +1,5 @@
 pub mod Ats
+pub mod Faults
 pub mod Heard
 pub mod Laws
 pub mod Pps
