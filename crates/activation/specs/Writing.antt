@@ -12,6 +12,8 @@ use Rattle.frames.specs.Check.{both, seal}
 use Rattle.frames.specs.Sealing.{sealing}
 use Rattle.frames.specs.Sizes.{greatestCode}
 use Rattle.activation.specs.declared.request.Rats.{Rats}
+use Rattle.activation.specs.declared.selection.Pps.{Pps}
+use Rattle.activation.specs.Pps.{ppsOf, ppsAnswer, greatestRate}
 use Rattle.activation.specs.Rats.{ratsOf}
 
 abbrev pub ratsValid : Rats → Bool
@@ -22,3 +24,18 @@ ratsFrame r = seal (ratsOf (r .fsdi) (r .cid))
 
 abbrev pub ratsWriting : Rats → ℕ → Result ℕ Refusal
 ratsWriting r buffer = cond (ratsValid r) (sealing (ratsOf (r .fsdi) (r .cid)) buffer) (Err Setting)
+
+abbrev pub ppsValid : Pps → Bool
+ppsValid p = both (ltb (p .cid) 15) (both (leb (p .dsi) greatestRate) (leb (p .dri) greatestRate))
+
+abbrev pub ppsFrame : Pps → List ℕ
+ppsFrame p = seal (ppsOf (p .cid) (p .dsi) (p .dri))
+
+abbrev pub ppsWriting : Pps → ℕ → Result ℕ Refusal
+ppsWriting p buffer = cond (ppsValid p) (sealing (ppsOf (p .cid) (p .dsi) (p .dri)) buffer) (Err Setting)
+
+abbrev pub ppsAnswerFrame : ℕ → List ℕ
+ppsAnswerFrame cid = seal (ppsAnswer cid)
+
+abbrev pub ppsAnswerWriting : ℕ → ℕ → Result ℕ Refusal
+ppsAnswerWriting cid buffer = cond (ltb cid 15) (sealing (ppsAnswer cid) buffer) (Err Setting)

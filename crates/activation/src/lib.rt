@@ -2,6 +2,7 @@
 mod fault;
 pub mod laws;
 mod request;
+mod selection;
 
 pub use fault::ActivationFault;
 pub use fault::FrameIntoActivation;
@@ -9,3 +10,10 @@ pub use request::Rats;
 pub use request::rats_of;
 pub use request::read_rats;
 pub use request::write_rats;
+pub use selection::Pps;
+pub use selection::hear_pps_answer;
+pub use selection::offered;
+pub use selection::pps_of;
+pub use selection::read_pps;
+pub use selection::write_pps;
+pub use selection::write_pps_answer;

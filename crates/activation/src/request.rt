@@ -17,7 +17,7 @@ const START: u8 = 0xE0;
 const GREATEST_CODE: u8 = 8;
 
 // Card numbers are below this one.
-const CARD_NUMBERS: u8 = 15;
+pub const CARD_NUMBERS: u8 = 15;
 
 // The code of the reader's frame size, and the card's number.
 #[derive(Clone, Copy)]
