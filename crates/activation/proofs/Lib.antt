@@ -3,4 +3,5 @@ mod Parts
 pub mod ReadsAts
 pub mod ReadsPps
 pub mod ReadsRats
+mod Taken
 pub mod Whole

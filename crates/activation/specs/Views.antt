@@ -4,9 +4,11 @@ use Rattle.std.specs.declared.option.Option.{Option}
 use Rattle.std.specs.declared.option.Option.the-variants.{Some, None}
 use Rattle.std.specs.declared.result.Result.{Result}
 use Rattle.std.specs.declared.result.Result.the-variants.{Ok, Err}
+use Rattle.activation.specs.declared.answer.Ats as heard
 use Rattle.activation.specs.declared.fault.ActivationFault.{ActivationFault}
 use Rattle.activation.specs.declared.request.Rats.{Rats}
 use Rattle.activation.specs.declared.selection.Pps.{Pps}
+use Rattle.activation.specs.Ats.{Ats, ats, AtsRead, good, bad}
 use Rattle.activation.specs.Faults.{activationCause}
 use Rattle.activation.specs.Heard.{PpsAnswerRead, agreed, notAgreed}
 use Rattle.activation.specs.Pps.{PpsRead, pps, noPps}
@@ -26,3 +28,12 @@ ppsSeen None = noPps
 abbrev pub ppsAnswerSeen : Result (Unit {0}) ActivationFault → PpsAnswerRead
 ppsAnswerSeen (Ok u) = agreed
 ppsAnswerSeen (Err why) = notAgreed (activationCause why)
+
+-- what an ATS says
+abbrev pub saidBy : heard.Ats → Ats
+saidBy a = ats (a .fsci) (a .ta) (a .fwi) (a .sfgi) (a .tc) (a .historical .now)
+
+-- an ATS, or a fault
+abbrev pub atsSeen : Result heard.Ats ActivationFault → AtsRead
+atsSeen (Ok a) = good (saidBy a)
+atsSeen (Err why) = bad (activationCause why)

@@ -1,9 +1,13 @@
 // RATS, ATS and PPS: the formats by which a reader wakes a card.
+mod answer;
 mod fault;
 pub mod laws;
 mod request;
 mod selection;
 
+pub use answer::Ats;
+pub use answer::ats_of;
+pub use answer::hear_ats;
 pub use fault::ActivationFault;
 pub use fault::FrameIntoActivation;
 pub use request::Rats;

@@ -14,7 +14,7 @@ use frames::unseal;
 const START: u8 = 0xE0;
 
 // The greatest code of a frame size.
-const GREATEST_CODE: u8 = 8;
+pub const GREATEST_CODE: u8 = 8;
 
 // Card numbers are below this one.
 pub const CARD_NUMBERS: u8 = 15;
