@@ -1,4 +1,6 @@
 pub mod Ats
+pub mod Codes
+pub mod Examples
 pub mod Faults
 pub mod Heard
 pub mod Laws

@@ -7,7 +7,7 @@ ghost use Rattle.activation.specs.Ats.{announced, lengthByteGood, t0Good, judg
 ghost use Rattle.activation.specs.Views.{atsSeen};
 use super::fault::ActivationFault;
 use super::fault::FrameIntoActivation;
-use super::request::GREATEST_CODE;
+use super::sizes::GREATEST_CODE;
 use frames::unseal;
 
 // The check's bytes, which TL does not count.

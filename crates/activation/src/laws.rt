@@ -1,6 +1,7 @@
 // What one end writes the other reads, and reads nothing else for it.
 ghost use Rattle.activation.specs.Laws.{Reads-rats, Reads-only-rats};
 ghost use Rattle.activation.specs.Laws.{Reads-ats, Good-is-valid, Good-is-whole};
+ghost use Rattle.activation.specs.Examples.{Waiting-15-fails, Waiting-15-frame-fails};
 ghost use Rattle.activation.specs.Laws.{Reads-pps, Reads-only-pps, Reads-pps-answer, Takes-pps-answer};
 
 pub fn rats_is_read()
@@ -22,4 +23,10 @@ pub fn pps_is_read()
 pub fn pps_response_is_taken()
     ensures taken { λ _. ⌜ Takes-pps-answer ⌝ }
     ensures only { λ _. ⌜ Reads-pps-answer ⌝ }
+{}
+
+// The ATS 05 78 00 F0 02 has a reserved value at place 4.
+pub fn ats_with_waiting_time_15_fails()
+    ensures body { λ _. ⌜ Waiting-15-fails ⌝ }
+    ensures frame { λ _. ⌜ Waiting-15-frame-fails ⌝ }
 {}

@@ -4,6 +4,7 @@ mod fault;
 pub mod laws;
 mod request;
 mod selection;
+mod sizes;
 
 pub use answer::Ats;
 pub use answer::ats_of;
@@ -21,3 +22,5 @@ pub use selection::pps_of;
 pub use selection::read_pps;
 pub use selection::write_pps;
 pub use selection::write_pps_answer;
+pub use sizes::GREATEST_CODE;
+pub use sizes::size_of_code;

@@ -6,15 +6,13 @@ ghost use Rattle.activation.specs.Rats.{readRats};
 ghost use Rattle.activation.specs.Heard.{hearRats};
 ghost use Rattle.activation.specs.Views.{ratsSeen};
 ghost use Rattle.activation.specs.Writing.{ratsValid, ratsWriting, ratsFrame};
+use super::sizes::GREATEST_CODE;
 use frames::Refusal;
 use frames::seal;
 use frames::unseal;
 
 // The byte that a RATS begins with.
 const START: u8 = 0xE0;
-
-// The greatest code of a frame size.
-pub const GREATEST_CODE: u8 = 8;
 
 // Card numbers are below this one.
 pub const CARD_NUMBERS: u8 = 15;
