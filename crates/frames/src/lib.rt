@@ -1,10 +1,15 @@
 // Frames and blocks of ISO/IEC 14443-4, Type A: the check, the control byte, blocks and their frames.
+mod block;
 mod check;
 mod fault;
 mod frame;
 mod kind;
+mod reading;
 mod refusal;
 
+pub use block::Agreed;
+pub use block::Block;
+pub use block::CardNumber;
 pub use fault::BlockFault;
 pub use fault::Cause;
 pub use fault::FrameFault;
