@@ -19,4 +19,6 @@ pub use frame::GREATEST_FRAME;
 pub use frame::LONGEST_BODY;
 pub use frame::seal;
 pub use frame::unseal;
+pub use reading::information_place;
+pub use reading::read_block;
 pub use refusal::Refusal;

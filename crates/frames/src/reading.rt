@@ -6,6 +6,7 @@ ghost use mathlib.Core.List.{List};
 ghost use lib.ListN.{length, drop};
 ghost use Rattle.frames.specs.Blocks.{follows, wait};
 ghost use Rattle.frames.specs.Causes.{multiplierReserved};
+ghost use Rattle.frames.specs.Check.{bodyOf};
 ghost use Rattle.frames.specs.Kinds.{kindSeen};
 ghost use Rattle.frames.specs.Reading.{has, lengthFits, cidSize, cidOf, cidGood, agrees, blockOf, readRest, readBody, readFrame, multiplierGood, valid, invalid};
 ghost use Rattle.frames.specs.Views.{cidSeen, agreement, seen, informationPlace, Placed};
@@ -13,12 +14,18 @@ use super::block::Agreed;
 use super::block::Block;
 use super::block::CardNumber;
 use super::fault::BlockFault;
+use super::fault::FrameIntoBlock;
+use super::frame::unseal;
 use super::kind::Kind;
+use super::kind::kind_of;
 
 // The control byte's bits, by their weights.
 const CHAINING: u8 = 0x10;
+
 const NAK: u8 = 0x10;
+
 const CARD: u8 = 0x08;
+
 const NUMBER: u8 = 0x01;
 
 // The bit of this weight is set in a control byte.
@@ -121,7 +128,12 @@ fn wait_of<'a>(byte: u8, card: Option<CardNumber>) -> Result<Block<'a>, BlockFau
 }
 
 // The block of a kind, from its control byte, its card number and the bytes behind the control byte.
-fn block_of<'a>(kind: Kind, control: u8, card: Option<CardNumber>, rest: &'a [u8]) -> Result<Block<'a>, BlockFault>
+fn block_of<'a>(
+    kind: Kind,
+    control: u8,
+    card: Option<CardNumber>,
+    rest: &'a [u8],
+) -> Result<Block<'a>, BlockFault>
     requires follows { ⌜ follows (cidSeen card) ≡ has 0x08 control ⌝ }
     requires long { ⌜ lengthFits (kindSeen kind) (has 0x08 control) (length (now rest)) ≡ true ⌝ }
     ensures value { λ r. ⌜ seen r ≡ blockOf (kindSeen kind) control (cidSeen card) (drop (cidSize (has 0x08 control)) (now (rest .entry))) ⌝ }
@@ -145,4 +157,51 @@ fn block_of<'a>(kind: Kind, control: u8, card: Option<CardNumber>, rest: &'a [u8
         Kind::Wait => wait_of(rest[place - 2], card),
         Kind::Reserved => Err(BlockFault::Control),
     }
+}
+
+// The tests behind that of the kind: length, card number, multiplier.
+fn read_rest<'a>(
+    agreed: Agreed,
+    kind: Kind,
+    control: u8,
+    rest: &'a [u8],
+) -> Result<Block<'a>, BlockFault>
+    ensures value { λ r. ⌜ seen r ≡ readRest (agreement agreed) (kindSeen kind) control (now (rest .entry)) ⌝ }
+    ensures placed { λ r. ⌜ Placed 2 (now (rest .entry)) r ⌝ }
+{
+    let follows = has_bit(CARD, control);
+    if !fits(kind, follows, rest.len()) {
+        return Err(BlockFault::Length);
+    }
+    let card = card_of(follows, rest);
+    if !good_card(follows, rest) || !agreed.takes(card) {
+        return Err(BlockFault::Card);
+    }
+    block_of(kind, control, card, rest)
+}
+
+fn read_body<'a>(agreed: Agreed, body: &'a [u8]) -> Result<Block<'a>, BlockFault>
+    ensures value { λ r. ⌜ seen r ≡ readBody (agreement agreed) (now (body .entry)) ⌝ }
+    ensures placed { λ r. ⌜ Placed 1 (now (body .entry)) r ⌝ }
+{
+    let Some((control, rest)) = body.split_first() else {
+        return Err(BlockFault::Control);
+    };
+    match kind_of(*control) {
+        Kind::Reserved => Err(BlockFault::Control),
+        kind => read_rest(agreed, kind, *control, rest),
+    }
+}
+
+// Reads a frame as a receiver does whose frame size is `limit`. The information of an I-block is a part of `frame`.
+pub fn read_block<'a>(
+    frame: &'a [u8],
+    limit: usize,
+    agreed: Agreed,
+) -> Result<Block<'a>, BlockFault>
+    ensures value { λ r. ⌜ seen r ≡ readFrame limit (agreement agreed) (now (frame .entry)) ⌝ }
+    ensures placed { λ r. ⌜ Placed 1 (bodyOf (now (frame .entry))) r ⌝ }
+{
+    let body = unseal(frame, limit)?;
+    read_body(agreed, body)
 }

@@ -20,12 +20,12 @@ returns-in-I c =
     let card = cidSeen (c .args .card) in
     let at = c .information-place-place in
     let offset : at .result - 2 ≡ cidSize (has 8 control) =
-        ap (λ p. p - 2) (at .ensures ∙ ap (λ f. 2 + cidSize f) (c .pre .follows)) ∙ behind-two (cidSize (has 8 control)) in
+    ap (λ p. p - 2) (at .ensures ∙ ap (λ f. 2 + cidSize f) (c .pre .follows)) ∙ behind-two (cidSize (has 8 control)) in
     let information : take (length rest - (at .result - 2)) (drop (at .result - 2) rest) ≡ drop (cidSize (has 8 control)) rest =
-        take-rest rest (at .result - 2) ∙ ap (λ k. drop k rest) offset in
+    take-rest rest (at .result - 2) ∙ ap (λ k. drop k rest) offset in
     record {
       value =
-        (λ i. valid (I-block (c .has-bit .ensures i) (c .has-bit-in-I .ensures i) card (information i)))
-        ∙ sym (ap (λ k. blockOf (kindSeen k) control card (drop (cidSize (has 8 control)) rest)) (c .in-I .is));
+          (λ i. valid (I-block (c .has-bit .ensures i) (c .has-bit-in-I .ensures i) card (information i)))
+          ∙ sym (ap (λ k. blockOf (kindSeen k) control card (drop (cidSize (has 8 control)) rest)) (c .in-I .is));
       placed = (at .ensures, take-rest rest (at .result - 2));
     }
