@@ -5,7 +5,8 @@ use mathlib.Core.Path.{_≡_, refl, sym, ap, ap₂, _∙_}
 use native.Mathlib.Omega.{arith}
 use lib.ListN.{length, take, drop, length-append, length-drop}
 use borrow.Rule.Slice.PartMut.{putMid}
-use Rattle.std.proofs.shelf.Lists.{take-at, drop-at, drop-drop}
+use Rattle.std.proofs.shelf.Lists.{take-at, drop-at, drop-drop, length-take-le}
+use Rattle.std.proofs.shelf.Parts.{drop-append-drop}
 use Rattle.buffers.specs.Over.{over, overAt}
 
 -- a part of a buffer, overwritten as a whole
@@ -32,3 +33,19 @@ over-first bytes old = ap (λ k. bytes ++ drop k old) (let k : 0 + length bytes 
 -- a buffer keeps its length
 pub length-over : (bytes old : List ℕ) → length bytes ≤ length old → length (over bytes old) ≡ length old
 length-over bytes old h = length-append bytes (drop (length bytes) old) ∙ omega (arith, length-drop (length bytes) old)
+
+-- bytes put behind the first n, and those n bytes with them
+pub over-behind : (n : ℕ) (bytes old : List ℕ) → n ≤ length old → overAt n bytes old ≡ over (take n old ++ bytes) old
+over-behind n bytes old h =
+    let long : n + length bytes ≡ length (take n old ++ bytes) =
+        ap (λ k. k + length bytes) (sym (length-take-le n old h)) ∙ sym (length-append (take n old) bytes) in
+    ap (λ k. take n old ++ (bytes ++ drop k old)) long
+    ∙ sym (append-assoc (take n old) bytes (drop (length (take n old ++ bytes)) old))
+
+-- what stands at the front is the bytes put there
+pub take-over : (bytes old : List ℕ) (n : ℕ) → n ≡ length bytes → take n (over bytes old) ≡ bytes
+take-over bytes old n e = take-at bytes (drop (length bytes) old) n (sym e)
+
+-- bytes put over fewer ones
+pub over-again : (bytes fewer old : List ℕ) → length fewer ≤ length bytes → over bytes (over fewer old) ≡ over bytes old
+over-again bytes fewer old h = ap (λ l. bytes ++ l) (drop-append-drop (length fewer) old fewer (length bytes) h refl)

@@ -1,2 +1,4 @@
+pub mod Opening
+pub mod Placing
 pub mod Sealed
 pub mod Shifts

@@ -10,6 +10,8 @@ use Rattle.std.proofs.shelf.Tests.{lt-ltb, le-ltb, le-leb}
 use Rattle.std.specs.declared.result.Result.{Result}
 use Rattle.std.specs.declared.result.Result.the-variants.{Ok, Err}
 use Rattle.frames.specs.declared.refusal.Refusal.{Refusal}
+use Rattle.buffers.specs.Over.{over}
+use Rattle.buffers.proofs.Overs.{take-over, over-again}
 use Rattle.frames.specs.Causes.{tooShort, tooLong, checkWrong}
 use Rattle.frames.specs.Check.{both, register, checkOf, seal, bodyOf, checks, Opened, opened, unopened, openFrame}
 use Rattle.frames.specs.Sizes.{greatestFrame, longestBody}
@@ -59,3 +61,9 @@ open-unchecked limit f h fits bad = rw (le-ltb (length f) 3 h, le-ltb limit (len
 pub sealing-goes : (body : List ℕ) (buffer : ℕ) → greatestFrame ≤ buffer → 0 < length body → length body ≤ longestBody → sealing body buffer ≡ Ok (length (seal body))
 sealing-goes body buffer room some fits =
     rw (le-ltb buffer greatestFrame room, lt-ltb 0 (length body) some, le-leb (length body) longestBody fits)
+
+-- a body at the front of a buffer, and then its check behind it
+pub closed : (body old now : List ℕ) (n : ℕ) → now ≡ over body old → n ≡ length body → over (seal (take n now)) now ≡ over (seal body) old
+closed body old now n e long =
+    ap (λ l. over (seal (take n l)) l) e ∙ ap (λ l. over (seal l) (over body old)) (take-over body old n long)
+    ∙ over-again (seal body) body old (let more : length body ≤ length (seal body) = omega (arith, two-more body) in more)

@@ -1,7 +1,8 @@
 // Frames: a body of one byte or more, and its check.
 ghost use mathlib.Core.Path.{_≡_};
-ghost use Prim.Native.Nat.{_≤_};
-ghost use lib.ListN.{length};
+ghost use Prim.Native.Nat.{_+_, _≤_};
+ghost use lib.ListN.{length, take};
+ghost use Rattle.buffers.specs.Over.{over};
 ghost use Rattle.frames.specs.Check.{seal, checks, openFrame};
 ghost use Rattle.frames.specs.Sealing.{sealing, written};
 ghost use Rattle.frames.specs.Views.{openedAs};
@@ -19,6 +20,15 @@ const CHECK: usize = 2;
 // The longest body.
 pub const LONGEST_BODY: usize = GREATEST_FRAME - CHECK;
 
+// Puts the check of the first `n` bytes behind them.
+pub fn close(out: &mut [u8], n: usize)
+    requires { ⌜ n + 2 ≤ length (now out) ⌝ }
+    ensures { λ _. ⌜ now (out .exit) ≡ over (seal (take n (now (out .entry)))) (now (out .entry)) ⌝ }
+{
+    let check = check_register(&out[0..n]).to_le_bytes();
+    put(out, n, &check);
+}
+
 // Writes the frame of `body` to the front of `out`, and answers its length.
 pub fn seal(body: &[u8], out: &mut [u8]) -> Result<usize, Refusal>
     ensures value { λ r. ⌜ r ≡ sealing (now (body .entry)) (length (now (out .entry))) ⌝ }
@@ -31,7 +41,7 @@ pub fn seal(body: &[u8], out: &mut [u8]) -> Result<usize, Refusal>
         return Err(Refusal::Length);
     }
     put(out, 0, body);
-    put(out, body.len(), &check_register(body).to_le_bytes());
+    close(out, body.len());
     Ok(body.len() + CHECK)
 }
 
