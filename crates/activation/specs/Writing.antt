@@ -13,6 +13,7 @@ use Rattle.frames.specs.Sealing.{sealing}
 use Rattle.frames.specs.Sizes.{greatestCode}
 use Rattle.activation.specs.declared.request.Rats.{Rats}
 use Rattle.activation.specs.declared.selection.Pps.{Pps}
+use Rattle.activation.specs.Ats.{Ats, atsOf, taGood}
 use Rattle.activation.specs.Pps.{ppsOf, ppsAnswer, greatestRate}
 use Rattle.activation.specs.Rats.{ratsOf}
 
@@ -39,3 +40,14 @@ ppsAnswerFrame cid = seal (ppsAnswer cid)
 
 abbrev pub ppsAnswerWriting : ℕ → ℕ → Result ℕ Refusal
 ppsAnswerWriting cid buffer = cond (ltb cid 15) (sealing (ppsAnswer cid) buffer) (Err Setting)
+
+abbrev pub atsValid : Ats → Bool
+atsValid a =
+    both (leb (a .fsci) greatestCode)
+    (both (taGood (a .ta)) (both (ltb (a .fwi) 15) (both (ltb (a .sfgi) 15) (ltb (a .tc) 4))))
+
+abbrev pub atsFrame : Ats → List ℕ
+atsFrame a = seal (atsOf a)
+
+abbrev pub atsWriting : Ats → ℕ → Result ℕ Refusal
+atsWriting a buffer = cond (atsValid a) (sealing (atsOf a) buffer) (Err Setting)

@@ -1,5 +1,6 @@
 // RATS, ATS and PPS: the formats by which a reader wakes a card.
 mod answer;
+mod answer_writing;
 mod fault;
 pub mod laws;
 mod request;
@@ -9,6 +10,7 @@ mod sizes;
 pub use answer::Ats;
 pub use answer::ats_of;
 pub use answer::hear_ats;
+pub use answer_writing::write_ats;
 pub use fault::ActivationFault;
 pub use fault::FrameIntoActivation;
 pub use request::Rats;
