@@ -3,6 +3,7 @@ mod Parts
 pub mod ReadsAts
 pub mod ReadsPps
 pub mod ReadsRats
+mod Seen
 mod Taken
 pub mod Waiting15
 pub mod Whole

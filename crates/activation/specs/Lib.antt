@@ -5,6 +5,7 @@ pub mod Faults
 pub mod Heard
 pub mod Laws
 pub mod Pps
+pub mod Ranges
 pub mod Rats
 pub mod Views
 pub mod Writing

@@ -3,8 +3,11 @@ ghost use mathlib.Core.Path.{_≡_};
 ghost use Prim.Native.Nat.{_≤_};
 ghost use lib.ListN.{length};
 ghost use mathlib.Core.Bool.{true};
+ghost use Rattle.std.specs.Vec.{made};
 ghost use Rattle.activation.specs.Ats.{announced, lengthByteGood, t0Good, judged, readInterface, readFormat, readAts, hearAts, byteOr, behind};
-ghost use Rattle.activation.specs.Views.{atsSeen};
+ghost use Rattle.activation.specs.Laws.{ValidAts};
+ghost use Rattle.activation.specs.Views.{saidBy, atsSeen};
+ghost use Rattle.activation.specs.Writing.{atsValid};
 use super::fault::ActivationFault;
 use super::fault::FrameIntoActivation;
 use super::sizes::GREATEST_CODE;
@@ -13,16 +16,35 @@ use frames::unseal;
 // The check's bytes, which TL does not count.
 const CHECK: usize = 2;
 
-// T0's bits: TA, TB and TC follow, and a bit that is reserved.
+// Bits of T0: TA, TB and TC follow.
 const TA: u8 = 0x10;
 
 const TB: u8 = 0x20;
 
 const TC: u8 = 0x40;
 
-const T0_RESERVED: u8 = 0x80;
+// Bits that are 0 in T0 and in TA.
+const T0_ZERO: u8 = 0x80;
 
-const TA_RESERVED: u8 = 0x08;
+const TA_ZERO: u8 = 0x08;
+
+// What holds where a byte is absent: frame size code 2, divisor 1, waiting time 4 and guard time 0, card numbers.
+const NO_T0: u8 = 0x02;
+
+const NO_TA: u8 = 0x00;
+
+const NO_TB: u8 = 0x40;
+
+const NO_TC: u8 = 0x02;
+
+// The codes of times are below this.
+const TIMES: u8 = 15;
+
+// TC has two bits.
+const TC_VALUES: u8 = 4;
+
+// The place of TA, or of the byte that stands for it, TL being 1.
+const BEHIND_T0: usize = 3;
 
 // What an ATS says: the code of the card's frame size, the divisors offered, the codes of the waiting time and the guard
 // time, what else is supported, and the historical bytes, as a part of what was heard.
@@ -34,6 +56,19 @@ pub struct Ats<'a> {
     pub sfgi: u8,
     pub tc: u8,
     pub historical: &'a [u8],
+}
+
+impl Ats<'_> {
+    // No value is reserved.
+    pub fn is_valid(self) -> bool
+        ensures { λ r. ⌜ r ≡ atsValid (saidBy (self .entry)) ⌝ }
+    {
+        self.fsci <= GREATEST_CODE
+            && self.ta & TA_ZERO == 0
+            && self.fwi < TIMES
+            && self.sfgi < TIMES
+            && self.tc < TC_VALUES
+    }
 }
 
 // How many bytes T0 announces.
@@ -75,27 +110,28 @@ fn judged<'a>(
 ) -> Result<Ats<'a>, ActivationFault>
     ensures { λ r. ⌜ atsSeen r ≡ judged t0 ta tb tc (now (historical .entry)) ⌝ }
 {
-    let mut place = 3;
-    if ta & TA_RESERVED != 0 {
+    let mut place = BEHIND_T0;
+    if ta & TA_ZERO != 0 {
         return Err(ActivationFault::Reserved { place });
     }
     if t0 & TA != 0 {
         place += 1;
     }
-    if tb / 16 == 15 || tb % 16 == 15 {
+    let (fwi, sfgi) = (tb / 16, tb % 16);
+    if fwi >= TIMES || sfgi >= TIMES {
         return Err(ActivationFault::Reserved { place });
     }
     if t0 & TB != 0 {
         place += 1;
     }
-    if tc >= 4 {
+    if tc >= TC_VALUES {
         return Err(ActivationFault::Reserved { place });
     }
     Ok(Ats {
         fsci: t0 % 16,
         ta,
-        fwi: tb / 16,
-        sfgi: tb % 16,
+        fwi,
+        sfgi,
         tc,
         historical,
     })
@@ -106,9 +142,9 @@ fn interface_bytes(t0: u8, rest: &[u8]) -> Result<Ats<'_>, ActivationFault>
     requires { ⌜ announced t0 ≤ length (now rest) ⌝ }
     ensures { λ r. ⌜ atsSeen r ≡ readInterface t0 (now (rest .entry)) ⌝ }
 {
-    let (ta, rest) = next_byte(t0 & TA != 0, 0x00, rest);
-    let (tb, rest) = next_byte(t0 & TB != 0, 0x40, rest);
-    let (tc, historical) = next_byte(t0 & TC != 0, 0x02, rest);
+    let (ta, rest) = next_byte(t0 & TA != 0, NO_TA, rest);
+    let (tb, rest) = next_byte(t0 & TB != 0, NO_TB, rest);
+    let (tc, historical) = next_byte(t0 & TC != 0, NO_TC, rest);
     judged(t0, ta, tb, tc, historical)
 }
 
@@ -116,7 +152,7 @@ fn interface_bytes(t0: u8, rest: &[u8]) -> Result<Ats<'_>, ActivationFault>
 fn t0_good(t0: u8) -> bool
     ensures { λ r. ⌜ r ≡ t0Good t0 ⌝ }
 {
-    t0 & T0_RESERVED == 0 && t0 % 16 <= GREATEST_CODE
+    t0 & T0_ZERO == 0 && t0 % 16 <= GREATEST_CODE
 }
 
 // What stands behind TL: nothing, or T0 and what it announces.
@@ -124,14 +160,7 @@ fn format_of(format: &[u8]) -> Result<Ats<'_>, ActivationFault>
     ensures { λ r. ⌜ atsSeen r ≡ readFormat (now (format .entry)) ⌝ }
 {
     let [t0, rest @ ..] = format else {
-        return Ok(Ats {
-            fsci: 2,
-            ta: 0x00,
-            fwi: 4,
-            sfgi: 0,
-            tc: 0x02,
-            historical: format,
-        });
+        return judged(NO_T0, NO_TA, NO_TB, NO_TC, format);
     };
     if !t0_good(*t0) {
         return Err(ActivationFault::Reserved { place: 2 });
@@ -152,7 +181,8 @@ fn length_byte_good(fsd: usize, tl: u8, heard: usize) -> bool
 
 // A body as an ATS, at a reader of this frame size.
 pub fn ats_of(body: &[u8], fsd: usize) -> Result<Ats<'_>, ActivationFault>
-    ensures { λ r. ⌜ atsSeen r ≡ readAts fsd (now (body .entry)) ⌝ }
+    ensures read { λ r. ⌜ atsSeen r ≡ readAts fsd (now (body .entry)) ⌝ }
+    ensures valid { λ r. ⌜ made r (λ a. ValidAts (saidBy a)) ⌝ }
 {
     match body {
         [tl, format @ ..] if length_byte_good(fsd, *tl, body.len()) => format_of(format),
@@ -162,7 +192,8 @@ pub fn ats_of(body: &[u8], fsd: usize) -> Result<Ats<'_>, ActivationFault>
 
 // A frame as an ATS, at a reader of this frame size.
 pub fn hear_ats(frame: &[u8], fsd: usize) -> Result<Ats<'_>, ActivationFault>
-    ensures { λ r. ⌜ atsSeen r ≡ hearAts fsd (now (frame .entry)) ⌝ }
+    ensures read { λ r. ⌜ atsSeen r ≡ hearAts fsd (now (frame .entry)) ⌝ }
+    ensures valid { λ r. ⌜ made r (λ a. ValidAts (saidBy a)) ⌝ }
 {
     ats_of(unseal(frame, fsd)?, fsd)
 }

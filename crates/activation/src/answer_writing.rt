@@ -10,7 +10,6 @@ ghost use Rattle.activation.specs.Ats.{atsOf};
 ghost use Rattle.activation.specs.Views.{saidBy};
 ghost use Rattle.activation.specs.Writing.{atsValid, atsWriting, atsFrame};
 use super::answer::Ats;
-use super::sizes::GREATEST_CODE;
 use buffers::put;
 use frames::GREATEST_FRAME;
 use frames::LONGEST_BODY;
@@ -19,13 +18,6 @@ use frames::seal;
 
 // TL, T0, TA, TB and TC.
 const HEAD: usize = 5;
-
-// No value is reserved.
-fn is_valid(ats: Ats<'_>) -> bool
-    ensures { λ r. ⌜ r ≡ atsValid (saidBy (ats .entry)) ⌝ }
-{
-    ats.fsci <= GREATEST_CODE && ats.ta & 0x08 == 0 && ats.fwi < 15 && ats.sfgi < 15 && ats.tc < 4
-}
 
 // Puts the bytes of an ATS at the front of `out`, and answers how many these are.
 fn put_ats(ats: Ats<'_>, out: &mut [u8]) -> usize
@@ -56,7 +48,7 @@ pub fn write_ats(ats: Ats<'_>, out: &mut [u8]) -> Result<usize, Refusal>
     ensures value { λ r. ⌜ r ≡ atsWriting (saidBy (ats .entry)) (length (now (out .entry))) ⌝ }
     ensures bytes { λ r. ⌜ now (out .exit) ≡ written r (atsFrame (saidBy (ats .entry))) (now (out .entry)) ⌝ }
 {
-    if !is_valid(ats) {
+    if !ats.is_valid() {
         return Err(Refusal::Setting);
     }
     if out.len() < GREATEST_FRAME {

@@ -4,6 +4,8 @@ ghost use lib.ListN.{length};
 ghost use Rattle.frames.specs.Sealing.{written};
 ghost use Rattle.activation.specs.Rats.{readRats};
 ghost use Rattle.activation.specs.Heard.{hearRats};
+ghost use Rattle.std.specs.Slices.{found};
+ghost use Rattle.activation.specs.Ranges.{RatsInRange};
 ghost use Rattle.activation.specs.Views.{ratsSeen};
 ghost use Rattle.activation.specs.Writing.{ratsValid, ratsWriting, ratsFrame};
 use super::sizes::GREATEST_CODE;
@@ -35,7 +37,8 @@ impl Rats {
 
 // A body as a RATS without reserved values.
 pub fn rats_of(body: &[u8]) -> Option<Rats>
-    ensures { λ r. ⌜ ratsSeen r ≡ readRats (now (body .entry)) ⌝ }
+    ensures read { λ r. ⌜ ratsSeen r ≡ readRats (now (body .entry)) ⌝ }
+    ensures valid { λ r. ⌜ found r RatsInRange ⌝ }
 {
     let [START, parameter] = body else {
         return None;
@@ -49,7 +52,8 @@ pub fn rats_of(body: &[u8]) -> Option<Rats>
 
 // A frame as a RATS, at a card of this frame size.
 pub fn read_rats(frame: &[u8], limit: usize) -> Option<Rats>
-    ensures { λ r. ⌜ ratsSeen r ≡ hearRats limit (now (frame .entry)) ⌝ }
+    ensures read { λ r. ⌜ ratsSeen r ≡ hearRats limit (now (frame .entry)) ⌝ }
+    ensures valid { λ r. ⌜ found r RatsInRange ⌝ }
 {
     match unseal(frame, limit) {
         Ok(body) => rats_of(body),

@@ -8,6 +8,7 @@ ghost use Rattle.frames.specs.Sealing.{written};
 ghost use Rattle.activation.specs.Pps.{readPps, offers, offered};
 ghost use Rattle.activation.specs.Heard.{hearPps, hearPpsAnswer};
 ghost use Rattle.activation.specs.Views.{ppsSeen, ppsAnswerSeen};
+ghost use Rattle.activation.specs.Ranges.{PpsFor};
 ghost use Rattle.activation.specs.Writing.{ppsValid, ppsWriting, ppsFrame, ppsAnswerWriting, ppsAnswerFrame};
 use super::fault::ActivationFault;
 use super::fault::FrameIntoActivation;
@@ -59,7 +60,7 @@ fn begins(start: u8, cid: u8) -> bool
 // A body as a PPS for the card of this number.
 pub fn pps_of(body: &[u8], cid: u8) -> Option<Pps>
     ensures read { λ r. ⌜ ppsSeen r ≡ readPps cid (now (body .entry)) ⌝ }
-    ensures card { λ r. ⌜ found r (λ p. p .cid ≡ cid) ⌝ }
+    ensures valid { λ r. ⌜ found r (PpsFor cid) ⌝ }
 {
     match body {
         [start, CODES_FOLLOW, codes] if begins(*start, cid) && *codes < RATES * RATES => Some(Pps {
@@ -74,7 +75,7 @@ pub fn pps_of(body: &[u8], cid: u8) -> Option<Pps>
 // A frame as a PPS, at the card of this frame size and number.
 pub fn read_pps(frame: &[u8], limit: usize, cid: u8) -> Option<Pps>
     ensures read { λ r. ⌜ ppsSeen r ≡ hearPps limit cid (now (frame .entry)) ⌝ }
-    ensures card { λ r. ⌜ found r (λ p. p .cid ≡ cid) ⌝ }
+    ensures valid { λ r. ⌜ found r (PpsFor cid) ⌝ }
 {
     match unseal(frame, limit) {
         Ok(body) => pps_of(body, cid),
