@@ -127,7 +127,8 @@ fn offers(ta: u8, weight: u8, code: u8) -> bool
         0 => true,
         1 => ta & weight != 0,
         2 => ta & (2 * weight) != 0,
-        _ => ta & (4 * weight) != 0,
+        3 => ta & (4 * weight) != 0,
+        _ => false,
     }
 }
 
