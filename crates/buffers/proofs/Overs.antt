@@ -38,7 +38,7 @@ length-over bytes old h = length-append bytes (drop (length bytes) old) ∙ omeg
 pub over-behind : (n : ℕ) (bytes old : List ℕ) → n ≤ length old → overAt n bytes old ≡ over (take n old ++ bytes) old
 over-behind n bytes old h =
     let long : n + length bytes ≡ length (take n old ++ bytes) =
-        ap (λ k. k + length bytes) (sym (length-take-le n old h)) ∙ sym (length-append (take n old) bytes) in
+    ap (λ k. k + length bytes) (sym (length-take-le n old h)) ∙ sym (length-append (take n old) bytes) in
     ap (λ k. take n old ++ (bytes ++ drop k old)) long
     ∙ sym (append-assoc (take n old) bytes (drop (length (take n old ++ bytes)) old))
 

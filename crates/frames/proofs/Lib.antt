@@ -2,3 +2,4 @@ pub mod Opening
 pub mod Placing
 pub mod Sealed
 pub mod Shifts
+pub mod Writable

@@ -1,11 +1,13 @@
 // Frames and blocks of ISO/IEC 14443-4, Type A: the check, the control byte, blocks and their frames.
 mod block;
 mod check;
+mod control;
 mod fault;
 mod frame;
 mod kind;
 mod reading;
 mod refusal;
+mod writing;
 
 pub use block::Agreed;
 pub use block::Block;
@@ -22,3 +24,4 @@ pub use frame::unseal;
 pub use reading::information_place;
 pub use reading::read_block;
 pub use refusal::Refusal;
+pub use writing::write_block;

@@ -16,8 +16,8 @@ returns c =
     let n = c .args .n in
     let whole : n - 0 ≡ n = omega arith in
     let check : c .to-le-bytes-check .result ≡ checkOf (take n old) =
-        c .to-le-bytes-check .ensures
-        ∙ check-bytes (take (n - 0) old) (c .check-register .result) (c .check-register .ensures) (c .check-register .ok)
-        ∙ ap (λ k. checkOf (take k old)) whole in
+    c .to-le-bytes-check .ensures
+    ∙ check-bytes (take (n - 0) old) (c .check-register .result) (c .check-register .ensures) (c .check-register .ok)
+    ∙ ap (λ k. checkOf (take k old)) whole in
     c .put .ensures ∙ ap (λ l. overAt n l old) check
     ∙ over-behind n (checkOf (take n old)) old (let fits : n ≤ length old = omega arith in fits)

@@ -17,9 +17,9 @@ returns c =
     let some : 0 < length body = omega (arith, false-eqb _ 0 (c .if-is-empty .ensures tt)) in
     record {
       value =
-        ap {B = Result ℕ Refusal} Ok (sym (two-more body))
-        ∙ sym (sealing-goes body (length old) (omega arith) some (omega arith));
+          ap {B = Result ℕ Refusal} Ok (sym (two-more body))
+          ∙ sym (sealing-goes body (length old) (omega arith) some (omega arith));
       bytes =
-        c .close .ensures
-        ∙ closed body old (c .put .last .out) (length body) (c .put .ensures ∙ over-first body old) refl;
+          c .close .ensures
+          ∙ closed body old (c .put .last .out) (length body) (c .put .ensures ∙ over-first body old) refl;
     }
