@@ -1,3 +1,4 @@
+pub mod FrameLaws
 pub mod Opening
 pub mod Placing
 pub mod Sealed
