@@ -7,9 +7,10 @@ use native.Mathlib.Omega.{arith}
 use lib.Dec.{eqb}
 use lib.ListN.{length, getD, take, drop, take-append-drop}
 use Rattle.std.proofs.shelf.Lists.{take-at, getD-at, drop-more, drop-all, length-push, same-from-push}
-use Rattle.std.proofs.shelf.Tests.{eq-eqb, eqb-true, false≢true}
+use Rattle.std.proofs.shelf.Tests.{eq-eqb, eqb-true}
 use Rattle.frames.specs.Check.{both, register, checkOf, seal, bodyOf, checks, opened, openFrame}
 use Rattle.frames.specs.Laws.{Noise, Two-more, Opens-to-its-body, Opens-if-sealed, Spoilt-is-noise}
+use Rattle.frames.proofs.Boths.{both-true}
 use Rattle.frames.proofs.Opening.{Opens, opens}
 use Rattle.frames.proofs.Sealed.{two-more, open-checked}
 
@@ -49,10 +50,6 @@ sealed-checks body =
 pub opens-to-its-body : Opens-to-its-body
 opens-to-its-body limit body some fits =
     open-checked limit (seal body) (omega (arith, two-more body)) fits (sealed-checks body) ∙ ap opened (front-of body)
-
-both-true : (a b : Bool) → both a b ≡ true → (a ≡ true) × (b ≡ true)
-both-true true b e = (refl, e)
-both-true false b e = absurd (false≢true e)
 
 -- the last two bytes of a list, apart
 ends-apart : (f : List ℕ) → 3 ≤ length f → f ≡ take (length f - 2) f ++ (getD f (length f - 2) 0 ∷ getD f (length f - 1) 0 ∷ [])

@@ -22,6 +22,7 @@ pub use frame::GREATEST_FRAME;
 pub use frame::LONGEST_BODY;
 pub use frame::seal;
 pub use frame::unseal;
+pub use laws::blocks_hold;
 pub use laws::frames_hold;
 pub use reading::information_place;
 pub use reading::read_block;
