@@ -10,3 +10,4 @@ pub mod Refused
 pub mod Sealing
 pub mod Sizes
 pub mod Views
+pub mod Writing

@@ -15,7 +15,7 @@ use buffers::put;
 pub const GREATEST_FRAME: usize = 256;
 
 // The check's bytes.
-const CHECK: usize = 2;
+pub const CHECK: usize = 2;
 
 // The longest body.
 pub const LONGEST_BODY: usize = GREATEST_FRAME - CHECK;

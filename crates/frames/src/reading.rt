@@ -13,27 +13,16 @@ ghost use Rattle.frames.specs.Views.{cidSeen, agreement, seen, informationPlac
 use super::block::Agreed;
 use super::block::Block;
 use super::block::CardNumber;
+use super::control::CARD;
+use super::control::CHAINING;
+use super::control::NAK;
+use super::control::NUMBER;
+use super::control::has_bit;
 use super::fault::BlockFault;
 use super::fault::FrameIntoBlock;
 use super::frame::unseal;
 use super::kind::Kind;
 use super::kind::kind_of;
-
-// The control byte's bits, by their weights.
-const CHAINING: u8 = 0x10;
-
-const NAK: u8 = 0x10;
-
-const CARD: u8 = 0x08;
-
-const NUMBER: u8 = 0x01;
-
-// The bit of this weight is set in a control byte.
-fn has_bit(weight: u8, control: u8) -> bool
-    ensures { λ r. ⌜ r ≡ has weight control ⌝ }
-{
-    control & weight != 0
-}
 
 // Where the information of a block begins, the control byte being 1.
 pub fn information_place(card: Option<CardNumber>) -> usize
