@@ -1,3 +1,4 @@
+pub mod Hears
 pub mod Judged
 mod Parts
 pub mod ReadsAts

@@ -1,12 +1,11 @@
 -- The ATS 05 78 00 F0 02 fails, by computation.
 use Prim.Native.Nat.{_-_, _≤_}
-use mathlib.Core.Path.{_≡_}
+use mathlib.Core.Path.{ap, _∙_}
 use native.Mathlib.Omega.{arith}
-use lib.Dec.{leb, ltb}
-use mathlib.Core.Bool.{true, false}
-use Rattle.std.proofs.shelf.Tests.{le-leb, le-ltb}
-use Rattle.frames.specs.Check.{openFrame, seal, checkOf, checks, bodyOf, register, registerFrom, takeIn, shift8}
-use Rattle.activation.specs.Examples.{Waiting-15-fails, Waiting-15-frame-fails}
+use Rattle.std.proofs.shelf.Tests.{le-leb}
+use Rattle.activation.specs.Ats.{readAtsOpened}
+use Rattle.activation.specs.Examples.{waiting15, Waiting-15-fails, Waiting-15-frame-fails}
+use Rattle.activation.proofs.Hears.{opens-to}
 
 pub waiting-15-fails : Waiting-15-fails
 waiting-15-fails fsd least =
@@ -14,8 +13,5 @@ waiting-15-fails fsd least =
     rw (le-leb 5 (fsd - 2) held)
 
 pub waiting-15-frame-fails : Waiting-15-frame-fails
-unfolding openFrame seal checkOf checks bodyOf register registerFrom takeIn shift8
 waiting-15-frame-fails fsd least =
-    let short : ltb fsd 7 ≡ false = le-ltb fsd 7 (omega arith) in
-    let held : leb 5 (fsd - 2) ≡ true = le-leb 5 (fsd - 2) (omega arith) in
-    rw (short, held)
+    ap (λ o. readAtsOpened fsd o) (opens-to fsd waiting15 (omega arith) (omega arith)) ∙ waiting-15-fails fsd least

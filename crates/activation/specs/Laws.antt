@@ -4,11 +4,13 @@ use mathlib.Core.Bool.{true}
 use mathlib.Core.List.{List, _++_}
 use mathlib.Core.Path.{_≡_}
 use lib.ListN.{length, getD}
+use Rattle.frames.specs.Check.{seal}
 use Rattle.frames.specs.Laws.{Bytes}
 use Rattle.frames.specs.Sizes.{greatestCode}
+use Rattle.activation.specs.Heard.{hearRats, hearPps, hearPpsAnswer, agreed}
 use Rattle.activation.specs.Rats.{ratsOf, readRats, rats}
 use Rattle.activation.specs.Pps.{ppsOf, ppsAnswer, readPps, pps, isPpsAnswer, greatestRate}
-use Rattle.activation.specs.Ats.{Ats, atsOf, readAts, good, taGood}
+use Rattle.activation.specs.Ats.{Ats, atsOf, readAts, hearAts, good, taGood}
 
 -- a RATS with a size code and a card number that are not reserved is read as it was written
 abbrev pub Reads-rats : Type 0
@@ -65,3 +67,27 @@ Reads-pps-answer = (cid : ℕ) (body : List ℕ) → isPpsAnswer cid body ≡ tr
 
 abbrev pub Takes-pps-answer : Type 0
 Takes-pps-answer = (cid : ℕ) → isPpsAnswer cid (ppsAnswer cid) ≡ true
+
+-- the same of whole frames: what one end writes and the other's frame holds is heard as it was written
+abbrev pub Hears-rats : Type 0
+Hears-rats =
+    (limit fsdi cid : ℕ)
+    → fsdi ≤ greatestCode
+    → cid < 15
+    → 4 ≤ limit
+    → hearRats limit (seal (ratsOf fsdi cid)) ≡ rats fsdi cid
+
+abbrev pub Hears-ats : Type 0
+Hears-ats =
+    (fsd : ℕ) (a : Ats) → ValidAts a → 5 + length (a .historical) ≤ fsd - 2 → hearAts fsd (seal (atsOf a)) ≡ good a
+
+abbrev pub Hears-pps : Type 0
+Hears-pps =
+    (limit cid dsi dri : ℕ)
+    → dsi ≤ greatestRate
+    → dri ≤ greatestRate
+    → 5 ≤ limit
+    → hearPps limit cid (seal (ppsOf cid dsi dri)) ≡ pps dsi dri
+
+abbrev pub Hears-pps-answer : Type 0
+Hears-pps-answer = (fsd cid : ℕ) → 3 ≤ fsd → hearPpsAnswer fsd cid (seal (ppsAnswer cid)) ≡ agreed
