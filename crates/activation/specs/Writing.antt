@@ -1,9 +1,10 @@
 -- What writing a frame answers, and the frame: a value that is reserved is refused as a setting, and then the buffer or the
 -- length as for any frame.
-use Prim.Native.Nat.{ℕ}
+use Prim.Native.Nat.{ℕ, _+_, _*_}
 use mathlib.Core.Bool.{Bool, cond}
-use mathlib.Core.List.{List}
+use mathlib.Core.List.{List, [], _∷_}
 use lib.Dec.{leb, ltb}
+use lib.ListN.{length}
 use Rattle.std.specs.declared.result.Result.{Result}
 use Rattle.std.specs.declared.result.Result.the-variants.{Err}
 use Rattle.frames.specs.declared.refusal.Refusal.{Refusal}
@@ -45,6 +46,10 @@ abbrev pub atsValid : Ats → Bool
 atsValid a =
     both (leb (a .fsci) greatestCode)
     (both (taGood (a .ta)) (both (ltb (a .fwi) 15) (both (ltb (a .sfgi) 15) (ltb (a .tc) 4))))
+
+-- what stands before the historical bytes
+abbrev pub atsHead : Ats → List ℕ
+atsHead a = (5 + length (a .historical)) ∷ (0x70 + a .fsci) ∷ a .ta ∷ (16 * a .fwi + a .sfgi) ∷ a .tc ∷ []
 
 abbrev pub atsFrame : Ats → List ℕ
 atsFrame a = seal (atsOf a)

@@ -8,7 +8,7 @@ ghost use Rattle.frames.specs.Sealing.{written};
 ghost use Rattle.frames.specs.Sizes.{longestBody};
 ghost use Rattle.activation.specs.Ats.{atsOf};
 ghost use Rattle.activation.specs.Views.{saidBy};
-ghost use Rattle.activation.specs.Writing.{atsValid, atsWriting, atsFrame};
+ghost use Rattle.activation.specs.Writing.{atsValid, atsHead, atsWriting, atsFrame};
 use super::answer::Ats;
 use buffers::put;
 use frames::GREATEST_FRAME;
@@ -19,28 +19,36 @@ use frames::seal;
 // TL, T0, TA, TB and TC.
 const HEAD: usize = 5;
 
+// T0 announces TA, TB and TC.
+const T0: u8 = 0x70;
+
+// What stands before the historical bytes.
+fn head_of(ats: Ats<'_>) -> [u8; HEAD]
+    requires valid { ⌜ atsValid (saidBy ats) ≡ true ⌝ }
+    requires counted { ⌜ 5 + length (now (ats .historical)) ≤ longestBody ⌝ }
+    ensures { λ r. ⌜ r ≡ atsHead (saidBy (ats .entry)) ⌝ }
+{
+    let tl = HEAD + ats.historical.len();
+    [
+        tl as u8,
+        T0 + ats.fsci,
+        ats.ta,
+        16 * ats.fwi + ats.sfgi,
+        ats.tc,
+    ]
+}
+
 // Puts the bytes of an ATS at the front of `out`, and answers how many these are.
 fn put_ats(ats: Ats<'_>, out: &mut [u8]) -> usize
     requires valid { ⌜ atsValid (saidBy ats) ≡ true ⌝ }
     requires counted { ⌜ 5 + length (now (ats .historical)) ≤ longestBody ⌝ }
-    requires room { ⌜ 5 + length (now (ats .historical)) ≤ length (now out) ⌝ }
+    requires room { ⌜ longestBody ≤ length (now out) ⌝ }
     ensures value { λ r. ⌜ r ≡ length (atsOf (saidBy (ats .entry))) ⌝ }
     ensures bytes { λ _. ⌜ now (out .exit) ≡ over (atsOf (saidBy (ats .entry))) (now (out .entry)) ⌝ }
 {
-    let tl = HEAD + ats.historical.len();
-    put(
-        out,
-        0,
-        &[
-            tl as u8,
-            0x70 + ats.fsci,
-            ats.ta,
-            16 * ats.fwi + ats.sfgi,
-            ats.tc,
-        ],
-    );
+    put(out, 0, &head_of(ats));
     put(out, HEAD, ats.historical);
-    tl
+    HEAD + ats.historical.len()
 }
 
 // Writes the frame of an ATS to the front of `out`, and answers its length.
