@@ -8,3 +8,4 @@ mod Seen
 mod Taken
 pub mod Waiting15
 pub mod Whole
+pub mod Writes

@@ -1,4 +1,4 @@
--- The cause that each fault stands for.
+-- Faults and causes.
 use Rattle.frames.specs.Causes.{Cause}
 use Rattle.frames.specs.Faults.{frameCause}
 use Rattle.activation.specs.declared.fault.ActivationFault.{ActivationFault}
@@ -6,6 +6,7 @@ use Rattle.activation.specs.declared.fault.ActivationFault.the-variants.{Frame
 use Rattle.activation.specs.Ats.{lengthByteWrong, reserved}
 use Rattle.activation.specs.Pps.{ppsAnswerWrong}
 
+-- the cause that each fault stands for
 abbrev pub activationCause : ActivationFault → Cause
 activationCause (Frame fault) = frameCause fault
 activationCause Response = ppsAnswerWrong

@@ -2,11 +2,12 @@
 use Prim.Native.Nat.{ℕ}
 use mathlib.Core.Bool.{cond}
 use mathlib.Core.List.{List}
-use Rattle.frames.specs.Check.{Opened, opened, unopened, openFrame}
 use Rattle.frames.specs.Causes.{Cause}
+use Rattle.frames.specs.Check.{Opened, opened, unopened, openFrame}
 use Rattle.activation.specs.Pps.{PpsRead, noPps, readPps, isPpsAnswer, ppsAnswerWrong}
 use Rattle.activation.specs.Rats.{RatsRead, noRats, readRats}
 
+-- what does not open is no RATS
 abbrev pub readRatsOpened : Opened → RatsRead
 readRatsOpened (opened body) = readRats body
 readRatsOpened (unopened why) = noRats
@@ -15,6 +16,7 @@ readRatsOpened (unopened why) = noRats
 abbrev pub hearRats : ℕ → List ℕ → RatsRead
 hearRats limit f = readRatsOpened (openFrame limit f)
 
+-- what does not open is no PPS
 abbrev pub readPpsOpened : ℕ → Opened → PpsRead
 readPpsOpened cid (opened body) = readPps cid body
 readPpsOpened cid (unopened why) = noPps
@@ -28,6 +30,7 @@ pub data PpsAnswerRead : Type 0 where
   agreed : PpsAnswerRead
   notAgreed : Cause → PpsAnswerRead
 
+-- a body is the response, or is wrong; what does not open has its cause
 abbrev pub readPpsAnswerOpened : ℕ → Opened → PpsAnswerRead
 readPpsAnswerOpened cid (opened body) = cond (isPpsAnswer cid body) agreed (notAgreed ppsAnswerWrong)
 readPpsAnswerOpened cid (unopened why) = notAgreed why

@@ -9,3 +9,4 @@ pub mod Ranges
 pub mod Rats
 pub mod Views
 pub mod Writing
+pub mod Written

@@ -18,30 +18,39 @@ use Rattle.activation.specs.Ats.{Ats, atsOf, taGood}
 use Rattle.activation.specs.Pps.{ppsOf, ppsAnswer, greatestRate}
 use Rattle.activation.specs.Rats.{ratsOf}
 
+-- neither the code nor the number of a RATS is reserved
 abbrev pub ratsValid : Rats → Bool
 ratsValid r = both (leb (r .fsdi) greatestCode) (ltb (r .cid) 15)
 
+-- the frame of a RATS
 abbrev pub ratsFrame : Rats → List ℕ
 ratsFrame r = seal (ratsOf (r .fsdi) (r .cid))
 
+-- what writing a RATS into a buffer of this length answers
 abbrev pub ratsWriting : Rats → ℕ → Result ℕ Refusal
 ratsWriting r buffer = cond (ratsValid r) (sealing (ratsOf (r .fsdi) (r .cid)) buffer) (Err Setting)
 
+-- the number is not reserved, and the codes are those of divisors
 abbrev pub ppsValid : Pps → Bool
 ppsValid p = both (ltb (p .cid) 15) (both (leb (p .dsi) greatestRate) (leb (p .dri) greatestRate))
 
+-- the frame of a PPS
 abbrev pub ppsFrame : Pps → List ℕ
 ppsFrame p = seal (ppsOf (p .cid) (p .dsi) (p .dri))
 
+-- what writing a PPS answers
 abbrev pub ppsWriting : Pps → ℕ → Result ℕ Refusal
 ppsWriting p buffer = cond (ppsValid p) (sealing (ppsOf (p .cid) (p .dsi) (p .dri)) buffer) (Err Setting)
 
+-- the frame of the response to a PPS
 abbrev pub ppsAnswerFrame : ℕ → List ℕ
 ppsAnswerFrame cid = seal (ppsAnswer cid)
 
+-- what writing the response answers
 abbrev pub ppsAnswerWriting : ℕ → ℕ → Result ℕ Refusal
 ppsAnswerWriting cid buffer = cond (ltb cid 15) (sealing (ppsAnswer cid) buffer) (Err Setting)
 
+-- an ATS without reserved values
 abbrev pub atsValid : Ats → Bool
 atsValid a =
     both (leb (a .fsci) greatestCode)
@@ -51,8 +60,10 @@ atsValid a =
 abbrev pub atsHead : Ats → List ℕ
 atsHead a = (5 + length (a .historical)) ∷ (0x70 + a .fsci) ∷ a .ta ∷ (16 * a .fwi + a .sfgi) ∷ a .tc ∷ []
 
+-- the frame of an ATS
 abbrev pub atsFrame : Ats → List ℕ
 atsFrame a = seal (atsOf a)
 
+-- what writing an ATS answers
 abbrev pub atsWriting : Ats → ℕ → Result ℕ Refusal
 atsWriting a buffer = cond (atsValid a) (sealing (atsOf a) buffer) (Err Setting)

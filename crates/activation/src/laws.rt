@@ -4,6 +4,7 @@ ghost use Rattle.activation.specs.Laws.{Reads-rats, Reads-only-rats, Hears-rat
 ghost use Rattle.activation.specs.Laws.{Reads-ats, Good-is-valid, Good-is-whole, Hears-ats};
 ghost use Rattle.activation.specs.Laws.{Reads-pps, Reads-only-pps, Hears-pps};
 ghost use Rattle.activation.specs.Laws.{Reads-pps-answer, Takes-pps-answer, Hears-pps-answer};
+ghost use Rattle.activation.specs.Written.{Writes-rats, Writes-ats, Writes-pps, Writes-pps-answer};
 
 // A RATS is read as it was written, and nothing else is read as it.
 pub fn rats_is_read()
@@ -32,6 +33,14 @@ pub fn pps_answer_is_read()
     ensures read { λ _. ⌜ Takes-pps-answer ⌝ }
     ensures only { λ _. ⌜ Reads-pps-answer ⌝ }
     ensures heard { λ _. ⌜ Hears-pps-answer ⌝ }
+{}
+
+// What is in range is written.
+pub fn formats_are_written()
+    ensures rats { λ _. ⌜ Writes-rats ⌝ }
+    ensures ats { λ _. ⌜ Writes-ats ⌝ }
+    ensures pps { λ _. ⌜ Writes-pps ⌝ }
+    ensures answer { λ _. ⌜ Writes-pps-answer ⌝ }
 {}
 
 // The ATS 05 78 00 F0 02 has a reserved value at place 4.

@@ -14,6 +14,7 @@ pub use answer_writing::write_ats;
 pub use fault::ActivationFault;
 pub use fault::FrameIntoActivation;
 pub use laws::ats_is_read;
+pub use laws::formats_are_written;
 pub use laws::pps_answer_is_read;
 pub use laws::pps_is_read;
 pub use laws::rats_is_read;
