@@ -1,4 +1,12 @@
 pub mod Ats
+pub mod Codes
+pub mod Examples
+pub mod Faults
+pub mod Heard
 pub mod Laws
 pub mod Pps
+pub mod Ranges
 pub mod Rats
+pub mod Views
+pub mod Writing
+pub mod Written

@@ -20,11 +20,13 @@ ppsOf cid dsi dri = (0xD0 + cid) ∷ 0x11 ∷ (4 * dsi + dri) ∷ []
 abbrev pub ppsAnswer : ℕ → List ℕ
 ppsAnswer cid = (0xD0 + cid) ∷ []
 
--- TA offers the divisor of this code in the direction whose lowest bit has this weight; divisor 1 always
+-- TA offers the divisor of this code in the direction whose lowest bit has this weight; divisor 1 always, and no code
+-- above the greatest has one
 abbrev pub offers : ℕ → ℕ → ℕ → Bool
 offers ta weight code =
     cond (eqb code 0) true
-    (cond (eqb code 1) (has weight ta) (cond (eqb code 2) (has (2 * weight) ta) (has (4 * weight) ta)))
+    (cond (eqb code 1) (has weight ta)
+    (cond (eqb code 2) (has (2 * weight) ta) (cond (eqb code 3) (has (4 * weight) ta) false)))
 
 -- TA offers this pair: b5 to b7 from the card, b1 to b3 to it, and with b8 only equal ones
 abbrev pub offered : ℕ → ℕ → ℕ → Bool

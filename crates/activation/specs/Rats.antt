@@ -1,6 +1,6 @@
 -- RATS: the reader asks a card to wake, tells it the size of the reader's frames, and gives it a number.
 use Prim.Native.Nat.{ℕ, _+_, _*_, _/_, _%_}
-use mathlib.Core.Bool.{Bool, true, false, cond}
+use mathlib.Core.Bool.{Bool, cond}
 use mathlib.Core.List.{List, [], _∷_}
 use lib.Dec.{eqb, leb, ltb}
 use Rattle.frames.specs.Check.{both}

@@ -1,7 +1,13 @@
 pub mod Blocks
 pub mod Causes
 pub mod Check
+pub mod Faults
+pub mod Kinds
 pub mod Laws
 pub mod Reading
 pub mod Refusals
+pub mod Refused
+pub mod Sealing
 pub mod Sizes
+pub mod Views
+pub mod Writing

@@ -1,10 +1,30 @@
-// Frames and blocks of ISO/IEC 14443-4, Type A.
-ghost use mathlib.Core.Path.{_≡_};
-ghost use Rattle.frames.specs.Reading.{kindOf};
-ghost use Rattle.frames.specs.Laws.{Two-more};
+// Frames and blocks of ISO/IEC 14443-4, Type A: the check, the control byte, blocks and their frames.
+mod block;
+mod check;
+mod control;
+mod fault;
+mod frame;
+mod kind;
+mod laws;
+mod reading;
+mod refusal;
+mod writing;
 
-pub fn one() -> u8
-    ensures { λ r. ⌜ r ≡ 1 ⌝ }
-{
-    1
-}
+pub use block::Agreed;
+pub use block::Block;
+pub use block::CardNumber;
+pub use fault::BlockFault;
+pub use fault::Cause;
+pub use fault::FrameFault;
+pub use fault::FrameIntoBlock;
+pub use fault::Layer;
+pub use frame::GREATEST_FRAME;
+pub use frame::LONGEST_BODY;
+pub use frame::seal;
+pub use frame::unseal;
+pub use laws::blocks_hold;
+pub use laws::frames_hold;
+pub use reading::information_place;
+pub use reading::read_block;
+pub use refusal::Refusal;
+pub use writing::write_block;

@@ -1,0 +1,12 @@
+pub mod BlockLaws
+pub mod Boths
+pub mod Cids
+pub mod Controls
+pub mod Decoding
+pub mod Encoding
+pub mod FrameLaws
+pub mod Opening
+pub mod Placing
+pub mod Sealed
+pub mod Shifts
+pub mod Writable

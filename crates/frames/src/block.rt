@@ -1,0 +1,45 @@
+// Blocks, as they are sent and as they are read.
+
+// A card number (CID) with the power level that it was sent with.
+#[derive(Clone, Copy)]
+pub struct CardNumber {
+    pub number: u8,
+    pub power: u8,
+}
+
+// A block. Block numbers are bits: false is 0, true is 1.
+#[derive(Clone, Copy)]
+pub enum Block<'a> {
+    // information, a part of the frame that begins at `place` (the control byte being 1)
+    I {
+        chaining: bool,
+        number: bool,
+        card: Option<CardNumber>,
+        place: usize,
+        information: &'a [u8],
+    },
+    // R(ACK), or R(NAK)
+    R {
+        nak: bool,
+        number: bool,
+        card: Option<CardNumber>,
+    },
+    Deselect {
+        card: Option<CardNumber>,
+    },
+    // more time is asked for, or granted
+    Wait {
+        multiplier: u8,
+        power: u8,
+        card: Option<CardNumber>,
+    },
+}
+
+// Which card numbers a receiver takes.
+#[derive(Clone, Copy)]
+pub enum Agreed {
+    NoNumber,
+    Number(u8),
+    // the number 0 as well as none
+    ZeroOrNone,
+}
