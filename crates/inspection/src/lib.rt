@@ -1,5 +1,7 @@
 // The jobs of `inspect`, read and answered line by line.
 mod hex;
+mod job;
+mod words;
 
-pub use hex::bytes_in;
-pub use hex::push_bytes;
+pub use job::Job;
+pub use job::job_of;
