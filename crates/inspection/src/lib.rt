@@ -1,0 +1,9 @@
+// The jobs of `inspect`, read and answered line by line.
+mod hex;
+mod job;
+mod text;
+mod words;
+
+pub use job::Job;
+pub use job::job_of;
+pub use text::push_number;
