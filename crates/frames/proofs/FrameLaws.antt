@@ -9,13 +9,17 @@ use lib.ListN.{length, getD, take, drop, take-append-drop}
 use Rattle.std.proofs.shelf.Lists.{take-at, getD-at, drop-more, drop-all, length-push, same-from-push}
 use Rattle.std.proofs.shelf.Tests.{eq-eqb, eqb-true}
 use Rattle.frames.specs.Check.{both, register, checkOf, seal, bodyOf, checks, opened, openFrame}
-use Rattle.frames.specs.Laws.{Noise, Two-more, Opens-to-its-body, Opens-if-sealed, Spoilt-is-noise}
+use Rattle.frames.specs.Laws.{Noise, Two-more, Begins-with-its-body, Opens-to-its-body, Opens-if-sealed, Spoilt-is-noise}
 use Rattle.frames.proofs.Boths.{both-true}
 use Rattle.frames.proofs.Opening.{Opens, opens}
 use Rattle.frames.proofs.Sealed.{two-more, open-checked}
 
 pub two-more-law : Two-more
 two-more-law = two-more
+
+pub begins-with-its-body : Begins-with-its-body
+unfolding seal
+begins-with-its-body body = take-at body (checkOf body) (length body) refl
 
 -- the body of a frame, and the two bytes behind it
 front-of : (body : List ℕ) → bodyOf (seal body) ≡ body

@@ -20,6 +20,7 @@ pub mod Past
 pub mod Phases
 pub mod Promises
 pub mod Reactions
+pub mod Rested
 pub mod Rests
 pub mod Runs
 pub mod Saying

@@ -1,5 +1,5 @@
 -- What holds after every run of a reader and a card, stopped anywhere.
-use Prim.Native.Nat.{ℕ, _+_, _*_, _/_, _<_, _≤_}
+use Prim.Native.Nat.{ℕ, zero, suc, _+_, _*_, _/_, _<_, _≤_}
 use mathlib.Core.Bool.{Bool, true, false, cond, not}
 use mathlib.Core.List.{List, [], _∷_, _++_}
 use mathlib.Core.Path.{_≡_}
@@ -197,3 +197,58 @@ pub record Agreement {S : Type 0} (u : Setup S) (s : S) (run : List Step) : Type
       → ⊥
   -- an open exchange has taken fewer events than the most frames that it can take
   pub moves-on : isAt busy (after u s run .reader) ≡ true → length (logIn u s run .turns) < mostFrames u s run
+
+-- An exchange that is driven on: the field's choice at each turn, the fate of the next frame and what comes after this one.
+
+pub data Comes : Type 0 where
+  theReply : Comes
+  nothing : Comes
+  noise : (bytes : List ℕ) → Comes
+
+pub record Chance : Type 0 where
+  pub fate : Fate
+  pub comes : Comes
+
+-- noise is noise
+abbrev pub Fair : Comes → Type 0
+Fair theReply = Unit {0}
+Fair nothing = Unit {0}
+Fair (noise f) = Noise f
+
+-- where there is no reply to hear, there is silence
+abbrev pub hearReply : Reply → Call
+hearReply quiet = silent greatestFrame
+hearReply (reply f) = heard f greatestFrame
+
+abbrev pub eventFor : Reply → Comes → Call
+eventFor a theReply = hearReply a
+eventFor a nothing = silent greatestFrame
+eventFor a (noise f) = heard f greatestFrame
+
+-- the run with its open exchange driven on by so many chances
+abbrev pub driven : {S : Type 0} → Setup S → S → List Step → (ℕ → Chance) → ℕ → List Step
+driven u s run chances zero = run
+driven u s run chances (suc k) =
+    let so-far = driven u s run chances k in
+    cond (isAt busy (after u s so-far .reader))
+    (record { call = eventFor (after u s so-far .answer) (chances k .comes); fate = chances k .fate } ∷ so-far) so-far
+
+-- Whatever chances come, as long as they can be borne, there is a number of them after which the exchange is done.
+abbrev pub Ends-done : {S : Type 0} → Setup S → S → List Step → Type 0
+Ends-done u s run =
+    isAt busy (after u s run .reader) ≡ true
+    → (chances : ℕ → Chance)
+    → ((k : ℕ) → Fair (chances k .comes))
+    → ((k : ℕ) → Bearable u s (driven u s run chances k))
+    → (k : ℕ) × (says (after u s (driven u s run chances k) .reader) ≡ done)
+
+-- The agreement of reader and card: for any application that keeps within its bounds, any settings in range, any start
+-- state, and any run.
+abbrev pub Agreement-holds : Type 0 → Type 0
+Agreement-holds S =
+    (u : Setup S) (s : S) (run : List Step)
+    → readerInRange (u .reader) ≡ true
+    → cardInRange (u .card) ≡ true
+    → Keeps (u .app)
+    → IsRun u s run
+    → Agreement u s run × Ends-done u s run
