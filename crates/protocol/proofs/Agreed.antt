@@ -94,7 +94,7 @@ module _ (laws : Laws) {S : Type 0} (u : Setup S) (s₀ : S) (G : Ground (u .rea
     abbrev reader : Reader
     reader = after u s₀ run .reader
 
-    ends-badly : (c : Call) (fate : Fate) (e : Ending) (y : Says) (t : Totals)
+    pub ends-badly : (c : Call) (fate : Fate) (e : Ending) (y : Says) (t : Totals)
         → CanCome (after u s₀ run) c
         → isAt busy reader ≡ true
         → moveOf u (after u s₀ run) c .outcome ≡ over e y t

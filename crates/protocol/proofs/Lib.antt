@@ -8,6 +8,7 @@ pub mod Counting
 pub mod Delivery
 pub mod Doubt
 pub mod Doubting
+pub mod Driving
 pub mod Ends
 pub mod Exactly
 pub mod Exchanging

@@ -19,5 +19,5 @@ laws =
       ats = reads-ats;
       pps = reads-pps;
       pps-answer = reads-pps-answer;
-      takes-answer = takes-pps-answer
+      takes-answer = takes-pps-answer;
     }
