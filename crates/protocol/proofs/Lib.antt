@@ -29,3 +29,4 @@ pub mod Steps
 pub mod Turning
 pub mod Views
 pub mod Waking
+pub mod Workings

@@ -1,5 +1,6 @@
 pub mod Agreement
 pub mod Card
+pub mod Examples
 pub mod Field
 pub mod Reader
 pub mod Settings

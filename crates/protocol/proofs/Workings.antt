@@ -1,0 +1,40 @@
+-- The worked cases hold.
+use mathlib.Core.Bool.{true, false}
+use mathlib.Core.Path.{refl, ap}
+use lib.Dec.{lit≤}
+use native.Mathlib.Omega.{arith}
+use Rattle.frames.specs.Blocks.{R-block, without, frameOf, bytesOf}
+use Rattle.frames.specs.Reading.{noNumber, Reading}
+use Rattle.frames.proofs.BlockLaws.{reads-its-frame}
+use Rattle.frames.proofs.FrameLaws.{two-more-law}
+use Rattle.activation.proofs.Waiting15.{waiting-15-fails}
+use Rattle.protocol.specs.Examples.{Worked, repeating, afterSilence, leastLink}
+use Rattle.protocol.specs.Reader.{onReading}
+
+pub worked : Worked
+worked =
+    record {
+      control-bytes =
+          record {
+            I-13 = refl;
+            chaining-13 = refl;
+            number-13 = refl;
+            made-13 = refl;
+            R-B2 = refl;
+            nak-B2 = refl;
+            number-B2 = refl;
+            made-B2 = refl;
+            none-C3 = refl;
+            none-E2 = refl;
+            none-06 = refl;
+          };
+      waiting-time = waiting-15-fails;
+      one-block = refl;
+      two-blocks = refl;
+      no-third = refl;
+      asks-again = refl;
+      not-taken =
+          ap (λ (r : Reading). onReading 1 0 leastLink (afterSilence 1 .reader .exchange) r .outcome)
+          (reads-its-frame 16 noNumber (R-block false true without) (tt, (let e = two-more-law (bytesOf (R-block false true without)) in omega arith), refl));
+      in-doubt = refl;
+    }
