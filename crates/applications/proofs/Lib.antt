@@ -1,5 +1,4 @@
 pub mod Bounds
-pub mod Buffers
 pub mod Heads
 pub mod MetreBooks
 pub mod MetreCommands

@@ -7,7 +7,7 @@ use mathlib.Core.List.{List, [], append-assoc}
 use mathlib.Core.Path.{_≡_, _∙_, sym}
 use lib.ListN.{length, take, drop, length-take, length-drop}
 use lib.Seq.{sets-eq}
-use Rattle.applications.specs.Buffer.{putAt}
+use Rattle.buffers.specs.Over.{overAt}
 use Rattle.applications.specs.Yarn.{Wanted, readBytes, writeBytes, written, done}
 use Rattle.applications.specs.declared.status.StatusWord.{StatusWord}
 use Rattle.applications.specs.declared.status.StatusWord.the-variants.{Good}
@@ -26,7 +26,7 @@ same-record x y e =
 
 -- bytes put into the record by one copy
 pub put-is-written : (y after : Yarn) (offset : ℕ) (bytes : List ℕ)
-    → offset + length bytes ≤ 128 → after .bytes ≡ putAt offset bytes (y .bytes) → after ≡ written y offset bytes
+    → offset + length bytes ≤ 128 → after .bytes ≡ overAt offset bytes (y .bytes) → after ≡ written y offset bytes
 unfolding written
 put-is-written y after offset bytes within e =
     let fits : offset + length bytes ≤ length (y .bytes) = rw (y .full) within in

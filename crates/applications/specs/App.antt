@@ -2,7 +2,8 @@
 -- which multiplier, and its next state. Nothing else moves the state.
 use Prim.Native.Nat.{ℕ, _≤_, _<_}
 use mathlib.Core.List.{List, [], _∷_}
-use lib.ListN.{length, getD}
+use lib.ListN.{length}
+use Rattle.buffers.specs.Rooms.{commandRoom, answerRoom}
 
 pub record App (S : Type 0) : Type 0 where
   pub answer : S → List ℕ → List ℕ
@@ -12,10 +13,10 @@ pub record App (S : Type 0) : Type 0 where
 
 -- the longest command that a card gathers, and the longest answer that a reader gathers
 abbrev pub longestCommand : ℕ
-longestCommand = 261
+longestCommand = commandRoom
 
 abbrev pub longestAnswer : ℕ
-longestAnswer = 258
+longestAnswer = answerRoom
 
 -- a command is 1 to 261 bytes
 abbrev pub IsCommand : List ℕ → Type 0

@@ -1,5 +1,4 @@
 pub mod App
-pub mod Buffer
 pub mod Command
 pub mod History
 pub mod Metre

@@ -4,18 +4,11 @@ ghost use lib.ListN.{length};
 ghost use mathlib.Core.List.{_++_};
 ghost use mathlib.Core.Path.{_≡_};
 ghost use Rattle.applications.specs.App.{longestAnswer};
-ghost use Rattle.applications.specs.Buffer.{over, putAt};
+ghost use Rattle.buffers.specs.Over.{over};
 ghost use Rattle.applications.specs.Status.{wordOf};
 use crate::application::LONGEST_ANSWER;
 use crate::status::StatusWord;
-
-// Puts `bytes` into the buffer from the place `at` on.
-pub(crate) fn put(buffer: &mut [u8], at: usize, bytes: &[u8])
-    requires { ⌜ at + length (now bytes) ≤ length (now buffer) ⌝ }
-    ensures { λ _. ⌜ now (buffer .exit) ≡ putAt at (now (bytes .entry)) (now (buffer .entry)) ⌝ }
-{
-    buffer[at..at + bytes.len()].copy_from_slice(bytes);
-}
+use buffers::put;
 
 // Puts an answer at the front of `answer`: `bytes` and the status word. Returns how long it is.
 pub(crate) fn put_answer(

@@ -2,10 +2,11 @@
 ghost use lib.ListN.{length};
 ghost use mathlib.Core.Path.{_≡_};
 ghost use Rattle.applications.specs.App.{App, Keeps, longestAnswer};
-ghost use Rattle.applications.specs.Buffer.{over};
+ghost use Rattle.buffers.specs.Over.{over};
+use buffers::ANSWER_ROOM;
 
 // The longest answer of an application: 256 bytes and a status word.
-pub const LONGEST_ANSWER: usize = 258;
+pub const LONGEST_ANSWER: usize = ANSWER_ROOM;
 
 // How an application answers: it asks for so many waits, each with the multiplier, and then the answer has so many
 // bytes.

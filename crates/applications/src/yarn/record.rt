@@ -5,7 +5,7 @@ ghost use mathlib.Core.Path.{_≡_};
 ghost use Rattle.applications.specs.Yarn.{recordSize, written};
 use super::RECORD_SIZE;
 use super::Yarn;
-use crate::answer::put;
+use buffers::put;
 
 impl Yarn {
     // A record with these bytes.
