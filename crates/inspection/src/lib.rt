@@ -1,4 +1,5 @@
 // The jobs of `inspect`, read and answered line by line.
+mod answer;
 mod hex;
 mod job;
 mod text;
@@ -6,4 +7,3 @@ mod words;
 
 pub use job::Job;
 pub use job::job_of;
-pub use text::push_number;
