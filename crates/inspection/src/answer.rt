@@ -13,6 +13,13 @@ ghost use Rattle.inspection.specs.Jobs.{taskSeen};
 ghost use Rattle.inspection.specs.Lines.{lineText};
 ghost use Rattle.inspection.specs.Tasks.{sealing, reading, taskOf};
 ghost use Rattle.inspection.specs.Texts.{readText, sealedText, refusedText, taskText};
+use super::hex::push_bytes;
+use super::job::Job;
+use super::job::job_of;
+use super::text::push_block;
+use super::text::push_cause;
+use super::text::push_field;
+use super::text::push_number_field;
 use frames::Agreed;
 use frames::Block;
 use frames::Cause;
@@ -22,13 +29,6 @@ use frames::read_block;
 use frames::seal;
 use std::alloc::AllocError;
 use std::alloc::Global;
-use super::hex::push_bytes;
-use super::job::Job;
-use super::job::job_of;
-use super::text::push_block;
-use super::text::push_cause;
-use super::text::push_field;
-use super::text::push_number_field;
 
 fn push_valid(out: &mut Vec<u8>, block: Block<'_>) -> Result<(), AllocError>
     ensures { λ r. ⌜ made r (λ _. vec-items (now (out .exit)) ≡ vec-items (now (out .entry)) ++ readText (valid (blockSeen (block .entry)))) ⌝ }
@@ -46,7 +46,12 @@ fn push_invalid(out: &mut Vec<u8>, cause: Cause) -> Result<(), AllocError>
 }
 
 // Appends what reading a frame gives.
-fn push_reading(out: &mut Vec<u8>, limit: usize, agreed: Agreed, frame: &[u8]) -> Result<(), AllocError>
+fn push_reading(
+    out: &mut Vec<u8>,
+    limit: usize,
+    agreed: Agreed,
+    frame: &[u8],
+) -> Result<(), AllocError>
     ensures { λ r. ⌜ made r (λ _. vec-items (now (out .exit)) ≡ vec-items (now (out .entry)) ++ taskText (reading limit (agreement agreed) (now (frame .entry)))) ⌝ }
 {
     match read_block(frame, limit, agreed) {
@@ -81,5 +86,33 @@ fn push_sealing(out: &mut Vec<u8>, body: &[u8]) -> Result<(), AllocError>
     match seal(body, &mut buffer) {
         Ok(n) => push_sealed(out, &buffer, n),
         Err(refusal) => push_refused(out, refusal),
+    }
+}
+
+// Appends the answer to a job.
+fn push_answer(out: &mut Vec<u8>, job: Job) -> Result<(), AllocError>
+    ensures { λ r. ⌜ made r (λ _. vec-items (now (out .exit)) ≡ vec-items (now (out .entry)) ++ taskText (taskSeen job)) ⌝ }
+{
+    match job {
+        Job::Seal { body } => push_sealing(out, body.as_slice()),
+        Job::Read {
+            limit,
+            agreed,
+            frame,
+        } => push_reading(out, limit, agreed, frame.as_slice()),
+    }
+}
+
+// Appends the answer to a line, with a line break, and says whether the line could be read; nothing is appended if it could not.
+pub fn push_line(heap: Global, out: &mut Vec<u8>, line: &[u8]) -> Result<bool, AllocError>
+    ensures { λ r. ⌜ made r (λ ok. (ok ≡ isSome (taskOf (now (line .entry)))) × (vec-items (now (out .exit)) ≡ vec-items (now (out .entry)) ++ lineText (taskOf (now (line .entry))))) ⌝ }
+{
+    match job_of(heap, line)? {
+        Some(job) => {
+            push_answer(out, job)?;
+            out.push(b'\n')?;
+            Ok(true)
+        }
+        None => Ok(false),
     }
 }

@@ -2,8 +2,8 @@
 mod answer;
 mod hex;
 mod job;
+mod lines;
 mod text;
 mod words;
 
-pub use job::Job;
-pub use job::job_of;
+pub use lines::push_output;
