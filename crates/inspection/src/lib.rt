@@ -2,8 +2,10 @@
 mod answer;
 mod hex;
 mod job;
+mod laws;
 mod lines;
 mod text;
 mod words;
 
+pub use laws::text_comes_back;
 pub use lines::push_output;
