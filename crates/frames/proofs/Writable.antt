@@ -4,15 +4,19 @@ use mathlib.Core.Bool.{Bool, true, false, cond}
 use mathlib.Core.Path.{_≡_, refl, sym, ap, ap₂, _∙_}
 use native.Mathlib.Omega.{arith}
 use lib.Dec.{ltb, leb}
-use lib.ListN.{length}
+use lib.ListN.{length, take}
+use mathlib.Core.List.{List}
 use Rattle.std.proofs.shelf.Tests.{lt-ltb, ltb-true, ltb-false, le-ltb, le-leb, leb-true}
 use Rattle.std.specs.declared.result.Result.{Result}
 use Rattle.std.specs.declared.result.Result.the-variants.{Ok, Err}
+use Rattle.buffers.specs.Over.{over}
+use Rattle.buffers.proofs.Overs.{take-over}
 use Rattle.frames.specs.declared.refusal.Refusal.{Refusal}
 use Rattle.frames.specs.declared.refusal.Refusal.the-variants.{Setting, Length, Buffer}
 use Rattle.frames.specs.Blocks.{Cid, without, numbered, Block, I-block, R-block, deselect, wait, ValidCid, ValidBlock, bytesOf, frameOf}
-use Rattle.frames.specs.Check.{both}
+use Rattle.frames.specs.Check.{both, seal}
 use Rattle.frames.specs.Exactly.{Written-exactly}
+use Rattle.frames.specs.Sealing.{sealable, sealing}
 use Rattle.frames.specs.Sizes.{greatestFrame, longestBody}
 use Rattle.frames.specs.Writing.{cidInRange, inRange, informed, sendable, writing}
 use Rattle.frames.proofs.Boths.{both-true}
@@ -73,3 +77,36 @@ written-exactly b buffer = (
       let fits : length (bytesOf b) ≤ longestBody = omega (arith, two-more (bytesOf b), h .1) in
       writing-goes b buffer (in-range b (h .0)) (h .2) (ap₂ both (has-information b (h .0)) (le-leb (length (bytesOf b)) longestBody fits)),
 )
+
+-- what is answered for a frame that was written
+pub record Answered (n : ℕ) (frame : List ℕ) (buffer : ℕ) : Type 0 where
+  pub long : n ≡ length frame
+  pub small : n ≤ greatestFrame
+  pub room : greatestFrame ≤ buffer
+
+is-length : (range small fits : Bool) (m n : ℕ) → _≡_ {A = Result ℕ Refusal} (cond range (cond small (Err Buffer) (cond fits (Ok m) (Err Length))) (Err Setting)) (Ok n) → n ≡ m
+is-length true true fits m n e = absurd (never Buffer n e)
+is-length true false true m n e = cc
+is-length true false false m n e = absurd (never Length n e)
+is-length false small fits m n e = absurd (never Setting n e)
+
+pub written-answers : (b : Block) (buffer n : ℕ) → Ok n ≡ writing b buffer → Answered n (frameOf b) buffer
+written-answers b buffer n e =
+    let long = is-length (inRange b) (ltb buffer greatestFrame) (sendable b) (length (frameOf b)) n (sym e) in
+    let w = written-exactly b buffer .0 (sym e ∙ ap (λ k. Ok k) long) in
+    record { long = long; small = omega (arith, w .1, long); room = w .2 }
+
+pub sealed-answers : (body : List ℕ) (buffer n : ℕ) → Ok n ≡ sealing body buffer → Answered n (seal body) buffer
+sealed-answers body buffer n e =
+    let long = is-length true (ltb buffer greatestFrame) (sealable body) (length (seal body)) n (sym e) in
+    let p = passed true (ltb buffer greatestFrame) (sealable body) (length (seal body)) (sym e ∙ ap (λ k. Ok k) long) in
+    let s = both-true (ltb 0 (length body)) (leb (length body) longestBody) (p .2) in
+    record {
+      long = long;
+      small = omega (arith, long, two-more body, leb-true (length body) longestBody (s .1));
+      room = ltb-false buffer greatestFrame (p .1);
+    }
+
+-- the frame stands at the front of the buffer
+pub front-of-written : (n : ℕ) (frame old new : List ℕ) → n ≡ length frame → new ≡ over frame old → take n new ≡ frame
+front-of-written n frame old new long e = ap (λ l. take n l) e ∙ take-over frame old n long

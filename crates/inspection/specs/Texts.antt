@@ -66,9 +66,15 @@ abbrev pub readText : Reading → List ℕ
 readText (valid b) = codes "read" then codes "0" then blockText b
 readText (invalid why) = codes "read" then causeText why
 
+abbrev pub sealedText : List ℕ → List ℕ
+sealedText f = codes "seal" then codes "0" then shownBytes f
+
+abbrev pub refusedText : Refusal → List ℕ
+refusedText why = codes "seal" then decimal (refusalNumber why) then codes "-"
+
 abbrev pub sealText : Result ℕ Refusal → List ℕ → List ℕ
-sealText (Ok n) f = codes "seal" then codes "0" then shownBytes f
-sealText (Err why) f = codes "seal" then decimal (refusalNumber why) then codes "-"
+sealText (Ok n) f = sealedText f
+sealText (Err why) f = refusedText why
 
 -- a task's answer; a frame is sealed into a buffer of the greatest frame
 abbrev pub taskText : Task → List ℕ

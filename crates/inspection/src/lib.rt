@@ -1,9 +1,11 @@
 // The jobs of `inspect`, read and answered line by line.
+mod answer;
 mod hex;
 mod job;
+mod laws;
+mod lines;
 mod text;
 mod words;
 
-pub use job::Job;
-pub use job::job_of;
-pub use text::push_number;
+pub use laws::text_comes_back;
+pub use lines::push_output;

@@ -56,7 +56,7 @@ fn layer_text(layer: Layer) -> &'static [u8]
 }
 
 // Appends a field and the space behind it.
-fn push_field(out: &mut Vec<u8>, field: &[u8]) -> Result<(), AllocError>
+pub fn push_field(out: &mut Vec<u8>, field: &[u8]) -> Result<(), AllocError>
     ensures { λ r. ⌜ made r (λ _. vec-items (now (out .exit)) ≡ vec-items (now (out .entry)) ++ (now (field .entry) ++ 32 ∷ [])) ⌝ }
 {
     out.extend_from_slice(field)?;
@@ -65,7 +65,7 @@ fn push_field(out: &mut Vec<u8>, field: &[u8]) -> Result<(), AllocError>
 }
 
 // Appends a number and the space behind it.
-fn push_number_field(out: &mut Vec<u8>, n: usize) -> Result<(), AllocError>
+pub fn push_number_field(out: &mut Vec<u8>, n: usize) -> Result<(), AllocError>
     ensures { λ r. ⌜ made r (λ _. vec-items (now (out .exit)) ≡ vec-items (now (out .entry)) ++ (decimal n ++ 32 ∷ [])) ⌝ }
 {
     push_number(out, n)?;
