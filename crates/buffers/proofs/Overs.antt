@@ -1,19 +1,23 @@
 -- Laws of buffers that bytes are put into.
 use Prim.Native.Nat.{ℕ, _+_, _-_, _≤_}
-use mathlib.Core.List.{List, [], _++_, append-assoc}
+use mathlib.Core.List.{List, [], _++_, append-nil, append-assoc}
 use mathlib.Core.Path.{_≡_, refl, sym, ap, ap₂, _∙_}
 use native.Mathlib.Omega.{arith}
 use lib.ListN.{length, take, drop, length-append, length-drop}
 use borrow.Rule.Slice.PartMut.{putMid}
-use Rattle.std.proofs.shelf.Lists.{take-at, drop-at, drop-drop, length-take-le}
+use Rattle.std.proofs.shelf.Lists.{take-at, take-rest, drop-all, drop-at, drop-drop, length-take-le}
 use Rattle.std.proofs.shelf.Parts.{drop-append-drop}
 use Rattle.buffers.specs.Over.{over, overAt}
 
--- a part of a buffer, overwritten as a whole
-pub part-overwritten : (at n : ℕ) (old bytes now : List ℕ) → now ≡ bytes → n ≡ length bytes → putMid at (at + n - at) old now ≡ overAt at bytes old
-part-overwritten at n old bytes now e long =
-    ap (λ l. putMid at (at + n - at) old l) e ∙ ap (λ l. take at old ++ (bytes ++ l))
-    (drop-drop (at + n - at) at old ∙ ap (λ k. drop k old) (let k : at + (at + n - at) ≡ at + length bytes = omega arith in k))
+-- bytes at the front of the part that begins at a place
+pub part-written : (at : ℕ) (bytes old part : List ℕ) → part ≡ over bytes (take (length old - at) (drop at old)) → putMid at (length old - at) old part ≡ overAt at bytes old
+part-written at bytes old part e =
+    let rest : drop (length bytes) (take (length old - at) (drop at old)) ≡ drop (at + length bytes) old =
+    ap (λ l. drop (length bytes) l) (take-rest old at) ∙ drop-drop (length bytes) at old in
+    let none : drop (length old - at) (drop at old) ≡ [] =
+    drop-drop (length old - at) at old ∙ drop-all (at + (length old - at)) old (omega arith) in
+    ap₂ (λ p l. take at old ++ (p ++ l)) (e ∙ ap (λ l. bytes ++ l) rest) none
+    ∙ ap (λ l. take at old ++ l) (append-nil (bytes ++ drop (at + length bytes) old))
 
 -- bytes put right behind those at the front
 pub over-more : (front bytes old : List ℕ) (at : ℕ) → at ≡ length front → overAt at bytes (over front old) ≡ over (front ++ bytes) old

@@ -4,6 +4,7 @@ pub mod Cids
 pub mod Controls
 pub mod Decoding
 pub mod Encoding
+pub mod Exacts
 pub mod FrameLaws
 pub mod Opening
 pub mod Placing

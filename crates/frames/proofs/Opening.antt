@@ -2,13 +2,14 @@
 use Prim.Native.Nat.{ℕ, _≤_}
 use mathlib.Core.Bool.{Bool, true, false, cond}
 use mathlib.Core.List.{List}
-use mathlib.Core.Path.{_≡_, refl, sym, _∙_}
+use mathlib.Core.Path.{_≡_, refl, sym, ap}
 use native.Mathlib.Omega.{arith}
 use lib.Dec.{ltb}
 use lib.ListN.{length}
 use Rattle.std.proofs.shelf.Tests.{ltb-false}
 use Rattle.frames.specs.Causes.{Cause, tooShort, tooLong, checkWrong}
 use Rattle.frames.specs.Check.{bodyOf, checks, Opened, opened, unopened, openFrame}
+use Rattle.frames.specs.Reading.{Agreed, readOpened, readFrame}
 
 never : (why : Cause) (body : List ℕ) → unopened why ≡ opened body → ⊥
 never why body e = let z : _≡_ {A = ℕ} 0 1 = cc in omega arith
@@ -36,3 +37,12 @@ opens limit f body e =
       good = p .2;
       front = p .3;
     }
+
+-- it opens to its front
+pub opened-front : (limit : ℕ) (f body : List ℕ) → opened body ≡ openFrame limit f → body ≡ bodyOf f
+opened-front limit f body e = sym (opens limit f body (sym e) .front)
+
+-- what opens is read by what it opens to
+pub read-by : (limit : ℕ) (agreed : Agreed) (f : List ℕ) (o : Opened) → o ≡ openFrame limit f → readOpened agreed o ≡ readFrame limit agreed f
+unfolding readFrame
+read-by limit agreed f o e = ap (readOpened agreed) e

@@ -1,6 +1,8 @@
 pub mod Blocks
 pub mod Causes
 pub mod Check
+pub mod Exactly
+pub mod Examples
 pub mod Faults
 pub mod Kinds
 pub mod Laws

@@ -1,4 +1,7 @@
 // Blocks, as they are sent and as they are read.
+ghost use mathlib.Core.Path.{_≡_};
+ghost use Rattle.frames.specs.declared.block.Block.the-variants.{I};
+ghost use Rattle.frames.specs.Views.{cidSeen, informationPlace};
 
 // A card number (CID) with the power level that it was sent with.
 #[derive(Clone, Copy)]
@@ -42,4 +45,34 @@ pub enum Agreed {
     Number(u8),
     // the number 0 as well as none
     ZeroOrNone,
+}
+
+// Where the information of a block begins, the control byte being 1.
+pub fn information_place(card: Option<CardNumber>) -> usize
+    ensures { λ r. ⌜ r ≡ informationPlace (cidSeen card) ⌝ }
+{
+    match card {
+        Some(_) => 3,
+        None => 2,
+    }
+}
+
+impl<'a> Block<'a> {
+    // An I-block with this information.
+    pub fn carrying(
+        chaining: bool,
+        number: bool,
+        card: Option<CardNumber>,
+        information: &'a [u8],
+    ) -> Block<'a>
+        ensures { λ r. ⌜ r ≡ I chaining number card (informationPlace (cidSeen card)) (information .entry) ⌝ }
+    {
+        Block::I {
+            chaining,
+            number,
+            card,
+            place: information_place(card),
+            information,
+        }
+    }
 }

@@ -14,38 +14,41 @@ pub enum Kind {
 }
 
 static KINDS: [Kind; 256] = [
+    // 00 to 0F
     Kind::Reserved,
     Kind::Reserved,
-    Kind::I,
-    Kind::I,
+    Kind::I, // 02
+    Kind::I, // 03
     Kind::Reserved,
     Kind::Reserved,
     Kind::Reserved,
     Kind::Reserved,
     Kind::Reserved,
     Kind::Reserved,
-    Kind::I,
-    Kind::I,
+    Kind::I, // 0A
+    Kind::I, // 0B
     Kind::Reserved,
     Kind::Reserved,
     Kind::Reserved,
     Kind::Reserved,
+    // 10 to 1F
     Kind::Reserved,
     Kind::Reserved,
-    Kind::I,
-    Kind::I,
+    Kind::I, // 12
+    Kind::I, // 13
     Kind::Reserved,
     Kind::Reserved,
     Kind::Reserved,
     Kind::Reserved,
     Kind::Reserved,
     Kind::Reserved,
-    Kind::I,
-    Kind::I,
+    Kind::I, // 1A
+    Kind::I, // 1B
     Kind::Reserved,
     Kind::Reserved,
     Kind::Reserved,
     Kind::Reserved,
+    // 20 to 2F
     Kind::Reserved,
     Kind::Reserved,
     Kind::Reserved,
@@ -62,6 +65,7 @@ static KINDS: [Kind; 256] = [
     Kind::Reserved,
     Kind::Reserved,
     Kind::Reserved,
+    // 30 to 3F
     Kind::Reserved,
     Kind::Reserved,
     Kind::Reserved,
@@ -78,6 +82,7 @@ static KINDS: [Kind; 256] = [
     Kind::Reserved,
     Kind::Reserved,
     Kind::Reserved,
+    // 40 to 4F
     Kind::Reserved,
     Kind::Reserved,
     Kind::Reserved,
@@ -94,6 +99,7 @@ static KINDS: [Kind; 256] = [
     Kind::Reserved,
     Kind::Reserved,
     Kind::Reserved,
+    // 50 to 5F
     Kind::Reserved,
     Kind::Reserved,
     Kind::Reserved,
@@ -110,6 +116,7 @@ static KINDS: [Kind; 256] = [
     Kind::Reserved,
     Kind::Reserved,
     Kind::Reserved,
+    // 60 to 6F
     Kind::Reserved,
     Kind::Reserved,
     Kind::Reserved,
@@ -126,6 +133,7 @@ static KINDS: [Kind; 256] = [
     Kind::Reserved,
     Kind::Reserved,
     Kind::Reserved,
+    // 70 to 7F
     Kind::Reserved,
     Kind::Reserved,
     Kind::Reserved,
@@ -142,6 +150,7 @@ static KINDS: [Kind; 256] = [
     Kind::Reserved,
     Kind::Reserved,
     Kind::Reserved,
+    // 80 to 8F
     Kind::Reserved,
     Kind::Reserved,
     Kind::Reserved,
@@ -158,6 +167,7 @@ static KINDS: [Kind; 256] = [
     Kind::Reserved,
     Kind::Reserved,
     Kind::Reserved,
+    // 90 to 9F
     Kind::Reserved,
     Kind::Reserved,
     Kind::Reserved,
@@ -174,41 +184,44 @@ static KINDS: [Kind; 256] = [
     Kind::Reserved,
     Kind::Reserved,
     Kind::Reserved,
+    // A0 to AF
     Kind::Reserved,
     Kind::Reserved,
-    Kind::R,
-    Kind::R,
+    Kind::R, // A2
+    Kind::R, // A3
     Kind::Reserved,
     Kind::Reserved,
     Kind::Reserved,
     Kind::Reserved,
     Kind::Reserved,
     Kind::Reserved,
-    Kind::R,
-    Kind::R,
+    Kind::R, // AA
+    Kind::R, // AB
     Kind::Reserved,
     Kind::Reserved,
     Kind::Reserved,
     Kind::Reserved,
+    // B0 to BF
     Kind::Reserved,
     Kind::Reserved,
-    Kind::R,
-    Kind::R,
+    Kind::R, // B2
+    Kind::R, // B3
     Kind::Reserved,
     Kind::Reserved,
     Kind::Reserved,
     Kind::Reserved,
     Kind::Reserved,
     Kind::Reserved,
-    Kind::R,
-    Kind::R,
+    Kind::R, // BA
+    Kind::R, // BB
     Kind::Reserved,
     Kind::Reserved,
     Kind::Reserved,
     Kind::Reserved,
+    // C0 to CF
     Kind::Reserved,
     Kind::Reserved,
-    Kind::Deselect,
+    Kind::Deselect, // C2
     Kind::Reserved,
     Kind::Reserved,
     Kind::Reserved,
@@ -216,12 +229,13 @@ static KINDS: [Kind; 256] = [
     Kind::Reserved,
     Kind::Reserved,
     Kind::Reserved,
-    Kind::Deselect,
+    Kind::Deselect, // CA
     Kind::Reserved,
     Kind::Reserved,
     Kind::Reserved,
     Kind::Reserved,
     Kind::Reserved,
+    // D0 to DF
     Kind::Reserved,
     Kind::Reserved,
     Kind::Reserved,
@@ -238,6 +252,7 @@ static KINDS: [Kind; 256] = [
     Kind::Reserved,
     Kind::Reserved,
     Kind::Reserved,
+    // E0 to EF
     Kind::Reserved,
     Kind::Reserved,
     Kind::Reserved,
@@ -254,9 +269,10 @@ static KINDS: [Kind; 256] = [
     Kind::Reserved,
     Kind::Reserved,
     Kind::Reserved,
+    // F0 to FF
     Kind::Reserved,
     Kind::Reserved,
-    Kind::Wait,
+    Kind::Wait, // F2
     Kind::Reserved,
     Kind::Reserved,
     Kind::Reserved,
@@ -264,7 +280,7 @@ static KINDS: [Kind; 256] = [
     Kind::Reserved,
     Kind::Reserved,
     Kind::Reserved,
-    Kind::Wait,
+    Kind::Wait, // FA
     Kind::Reserved,
     Kind::Reserved,
     Kind::Reserved,

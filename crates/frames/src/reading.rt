@@ -13,6 +13,7 @@ ghost use Rattle.frames.specs.Views.{cidSeen, agreement, seen, informationPlac
 use super::block::Agreed;
 use super::block::Block;
 use super::block::CardNumber;
+use super::block::information_place;
 use super::control::CARD;
 use super::control::CHAINING;
 use super::control::NAK;
@@ -23,16 +24,6 @@ use super::fault::FrameIntoBlock;
 use super::frame::unseal;
 use super::kind::Kind;
 use super::kind::kind_of;
-
-// Where the information of a block begins, the control byte being 1.
-pub fn information_place(card: Option<CardNumber>) -> usize
-    ensures { λ r. ⌜ r ≡ informationPlace (cidSeen card) ⌝ }
-{
-    match card {
-        Some(_) => 3,
-        None => 2,
-    }
-}
 
 // How many bytes a card number takes.
 fn card_size(follows: bool) -> usize

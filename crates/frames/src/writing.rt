@@ -11,6 +11,7 @@ ghost use Rattle.frames.specs.Views.{cidSeen, blockSeen};
 ghost use Rattle.frames.specs.Writing.{cidInRange, inRange, sendable, writing};
 use super::block::Block;
 use super::block::CardNumber;
+use super::block::information_place;
 use super::control::CARD;
 use super::control::CHAINING;
 use super::control::NAK;
@@ -20,7 +21,6 @@ use super::frame::CHECK;
 use super::frame::GREATEST_FRAME;
 use super::frame::LONGEST_BODY;
 use super::frame::close;
-use super::reading::information_place;
 use super::refusal::Refusal;
 use buffers::put;
 

@@ -1,0 +1,4 @@
+pub mod Breaks
+pub mod Cuts
+pub mod Hexes
+pub mod Sealings
