@@ -15,6 +15,7 @@ use Rattle.inspection.specs.Words.{Cut, cutOf, limitIn, cardIn}
 pub data Task : Type 0 where
   sealing : (body : List ℕ) → Task
   reading : (limit : ℕ) → Agreed → (frame : List ℕ) → Task
+  hearing : (fsd : ℕ) → (frame : List ℕ) → Task
 
 -- a word is spelled so
 abbrev pub spells : List ℕ → List ℕ → Bool
@@ -37,12 +38,22 @@ abbrev pub withLimit : Option Cut → Option Task
 withLimit None = None
 withLimit (Some k) = withCard (limitIn (k .first)) (cutOf (k .rest))
 
--- seal BODY, or read LIMIT CARD FRAME
+abbrev pub withAts : Option ℕ → Option (List ℕ) → Option Task
+withAts None frame = None
+withAts (Some fsd) None = None
+withAts (Some fsd) (Some frame) = Some (hearing fsd frame)
+
+abbrev pub withFsd : Option Cut → Option Task
+withFsd None = None
+withFsd (Some k) = withAts (limitIn (k .first)) (bytesIn (k .rest))
+
+-- seal BODY, or read LIMIT CARD FRAME, or ats FSD FRAME
 abbrev pub byWord : Option Cut → Option Task
 byWord None = None
 byWord (Some k) =
     cond (spells (codes "seal") (k .first)) (mapped (λ b. sealing b) (bytesIn (k .rest)))
-    (cond (spells (codes "read") (k .first)) (withLimit (cutOf (k .rest))) None)
+    (cond (spells (codes "read") (k .first)) (withLimit (cutOf (k .rest)))
+    (cond (spells (codes "ats") (k .first)) (withFsd (cutOf (k .rest))) None))
 
 -- what a line asks for, if it can be read
 abbrev pub taskOf : List ℕ → Option Task

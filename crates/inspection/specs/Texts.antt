@@ -16,10 +16,11 @@ use Rattle.frames.specs.Check.{seal}
 use Rattle.frames.specs.Reading.{Reading, valid, invalid, readFrame}
 use Rattle.frames.specs.Refused.{refusalNumber}
 use Rattle.frames.specs.Sealing as frames
-use Rattle.frames.specs.Sizes.{greatestFrame}
+use Rattle.frames.specs.Sizes.{greatestFrame, sizeOf}
 use Rattle.frames.specs.Views.{informationPlace}
-use Rattle.inspection.specs.Hex.{shownBytes}
-use Rattle.inspection.specs.Tasks.{Task, sealing, reading, taskOf}
+use Rattle.activation.specs.Ats.{Ats, AtsRead, good, bad, hearAts}
+use Rattle.inspection.specs.Hex.{hex, shownBytes}
+use Rattle.inspection.specs.Tasks.{Task, sealing, reading, hearing, taskOf}
 
 -- fields are separated by one space
 abbrev pub _then_ : List ℕ → List ℕ → List ℕ
@@ -76,7 +77,19 @@ abbrev pub sealText : Result ℕ Refusal → List ℕ → List ℕ
 sealText (Ok n) f = sealedText f
 sealText (Err why) f = refusedText why
 
+-- what an ATS says: the card's frame size and TA, then waiting time, guard time, TC and the historical bytes
+abbrev pub offerText : Ats → List ℕ
+offerText a = decimal (sizeOf (a .fsci)) then hex (a .ta ∷ [])
+
+abbrev pub timesText : Ats → List ℕ
+timesText a = decimal (a .fwi) then decimal (a .sfgi) then hex (a .tc ∷ []) then shownBytes (a .historical)
+
+abbrev pub atsText : AtsRead → List ℕ
+atsText (good a) = codes "ats" then codes "0" then offerText a then timesText a
+atsText (bad why) = codes "ats" then causeText why
+
 -- a task's answer; a frame is sealed into a buffer of the greatest frame
 abbrev pub taskText : Task → List ℕ
 taskText (sealing body) = sealText (frames.sealing body greatestFrame) (seal body)
 taskText (reading limit agreed f) = readText (readFrame limit agreed f)
+taskText (hearing fsd f) = atsText (hearAts fsd f)

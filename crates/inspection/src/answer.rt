@@ -13,6 +13,7 @@ ghost use Rattle.inspection.specs.Jobs.{taskSeen};
 ghost use Rattle.inspection.specs.Lines.{lineText};
 ghost use Rattle.inspection.specs.Tasks.{sealing, reading, taskOf};
 ghost use Rattle.inspection.specs.Texts.{readText, sealedText, refusedText, taskText};
+use super::hearing::push_hearing;
 use super::hex::push_bytes;
 use super::job::Job;
 use super::job::job_of;
@@ -100,6 +101,7 @@ fn push_answer(out: &mut Vec<u8>, job: Job) -> Result<(), AllocError>
             agreed,
             frame,
         } => push_reading(out, limit, agreed, frame.as_slice()),
+        Job::Ats { fsd, frame } => push_hearing(out, fsd, frame.as_slice()),
     }
 }
 

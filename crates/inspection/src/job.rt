@@ -4,7 +4,7 @@ ghost use Rattle.std.specs.Options.{mapped};
 ghost use Rattle.std.specs.Vec.{made};
 ghost use Rattle.inspection.specs.Hex.{bytesIn};
 ghost use Rattle.inspection.specs.Jobs.{taskSeen};
-ghost use Rattle.inspection.specs.Tasks.{sealing, taskOf, withLimit};
+ghost use Rattle.inspection.specs.Tasks.{sealing, taskOf, withLimit, withFsd};
 ghost use Rattle.inspection.specs.Words.{cutOf};
 use super::hex::bytes_in;
 use super::words::card_in;
@@ -22,6 +22,10 @@ pub enum Job {
     Read {
         limit: usize,
         agreed: Agreed,
+        frame: Vec<u8>,
+    },
+    Ats {
+        fsd: usize,
         frame: Vec<u8>,
     },
 }
@@ -62,6 +66,22 @@ fn read_job(heap: Global, fields: &[u8]) -> Result<Option<Job>, AllocError>
     }
 }
 
+// FSD FRAME
+fn ats_job(heap: Global, fields: &[u8]) -> Result<Option<Job>, AllocError>
+    ensures { λ r. ⌜ made r (λ o. mapped taskSeen o ≡ withFsd (cutOf (now (fields .entry)))) ⌝ }
+{
+    let Some((fsd, frame)) = cut(fields) else {
+        return Ok(None);
+    };
+    let Some(fsd) = limit_in(fsd) else {
+        return Ok(None);
+    };
+    match bytes_in(heap, frame)? {
+        Some(frame) => Ok(Some(Job::Ats { fsd, frame })),
+        None => Ok(None),
+    }
+}
+
 // The job that `line` asks for, if it can be read.
 pub fn job_of(heap: Global, line: &[u8]) -> Result<Option<Job>, AllocError>
     ensures { λ r. ⌜ made r (λ o. mapped taskSeen o ≡ taskOf (now (line .entry))) ⌝ }
@@ -72,6 +92,7 @@ pub fn job_of(heap: Global, line: &[u8]) -> Result<Option<Job>, AllocError>
     match word {
         b"seal" => seal_job(heap, rest),
         b"read" => read_job(heap, rest),
+        b"ats" => ats_job(heap, rest),
         _ => Ok(None),
     }
 }

@@ -1,5 +1,6 @@
 // The jobs of `inspect`, read and answered line by line.
 mod answer;
+mod hearing;
 mod hex;
 mod job;
 mod laws;
