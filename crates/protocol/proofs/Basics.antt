@@ -1,4 +1,6 @@
 -- Small facts about tests, block numbers and lists.
+use Rattle.applications.specs.App.{IsCommand, longestCommand}
+use Rattle.std.proofs.shelf.Lists.{length-append}
 use Prim.Native.Nat.{ℕ, _+_, _-_, _<_, _≤_, min}
 use mathlib.Core.Bool.{Bool, true, false, cond, not}
 use mathlib.Core.List.{List, [], _∷_, _++_}
@@ -56,3 +58,13 @@ take-pos n xs p q = rw length-take (omega arith)
 
 pub take-few : (n : ℕ) (xs : List ℕ) → length (take n xs) ≤ n
 take-few n xs = rw length-take (omega arith)
+
+-- the command's bytes so far and the part that is out are within the longest command
+pub fits-command : (g p r c : List ℕ) → g ++ (p ++ r) ≡ c → IsCommand c → length (g ++ p) ≤ longestCommand
+fits-command g p r c cut ok =
+    let e = ap length cut in
+    let a = length-append g (p ++ r) in
+    let b = length-append p r in
+    let d = length-append g p in
+    let h = ok .1 in
+    omega arith

@@ -1,4 +1,5 @@
 -- How the doubt stands after each turn of an exchange: it opens, stays or is over.
+use Rattle.protocol.proofs.Basics.{fits-command}
 use Rattle.frames.specs.Blocks.{I-block, frameOf}
 use Rattle.protocol.specs.Card.{awake, sent}
 use Rattle.protocol.specs.Field.{arrives}
@@ -32,16 +33,6 @@ use Rattle.protocol.proofs.Turning.{Turned, again, spends, rewrites, leaves, a
 orElse-true : (b : Bool) → orElse b true ≡ true
 orElse-true true = refl
 orElse-true false = refl
-
--- the command's bytes so far and the part that is out are within the longest command
-fits-command : (g p r c : List ℕ) → g ++ (p ++ r) ≡ c → IsCommand c → length (g ++ p) ≤ longestCommand
-fits-command g p r c cut ok =
-    let e = ap length cut in
-    let a = length-append g (p ++ r) in
-    let b = length-append p r in
-    let d = length-append g p in
-    let h = ok .1 in
-    omega arith
 
 module _ {S : Type 0} (u : Setup S) (s₀ : S) where
   phase-running : {dsi dri : ℕ} {x : Exchange} {w : Awake} {a : Reply} {fate : Fate} {q : Bool} {bad : ℕ} {b g : List (List ℕ)} → Phase u s₀ dsi dri x w a fate q bad b g → x .progress ≡ running

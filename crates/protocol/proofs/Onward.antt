@@ -1,4 +1,5 @@
 -- An open exchange stays in its phases, whatever frame goes out and whatever becomes of it.
+use Rattle.protocol.proofs.Basics.{fits-command}
 use Prim.Native.Nat.{ℕ, _+_, _-_, _*_, _<_, _≤_}
 use mathlib.Core.Bool.{Bool, true, false, cond, not}
 use mathlib.Core.List.{List, [], _∷_, _++_}
@@ -220,13 +221,7 @@ module _ (laws : Laws) {S : Type 0} (u : Setup S) (s₀ : S) (G : Ground (u .rea
   part-goes win m g p r l fr rp i st y c cs ts cut ok lo hi C whole = go (more r) refl
     where
       few : length (g ++ p) ≤ longestCommand
-      few =
-          let e = ap length cut in
-          let a = length-append g (p ++ r) in
-          let b = length-append p r in
-          let d = length-append g p in
-          let h = ok .1 in
-          omega arith
+      few = fits-command g p r c cut ok
 
       go : (b : Bool) → more r ≡ b → Goes (ex (not m) p r [] fr rp 0 i y st false) (up u s₀ win dsi dri m g owesNothing l) (I-block (more r) (not m) (cid u s₀) p) (c ∷ cs) cs ts whole
       go true e =
