@@ -1,42 +1,33 @@
 -- The agreement of reader and card holds after every run.
-use lib.Dec.{leb}
-use Rattle.frames.specs.Check.{both}
-use Rattle.frames.specs.Refusals.{settingRefused, rateRefused, lengthRefused, stageRefused}
-use Rattle.frames.specs.Sizes.{sizeOf, greatestFrame}
-use Rattle.activation.specs.Pps.{offered, greatestRate}
-use Rattle.applications.specs.App.{longestAnswer}
-use Rattle.protocol.specs.Agreement.{blocksOf}
-use Rattle.protocol.specs.Reader.{ask, rate, start, begin, heard, silent, giveUp, close, fetch, unwoken, woken, idle, closed, asks, rates, begins, stops, closes, isCommand, to, active, stopped, fetched, mayClose, guarded, refuse}
-use Rattle.protocol.proofs.Doubt.{guarded-taken, test-taken}
-use Rattle.protocol.proofs.Exactly.{can-hear, event-move}
-use Rattle.protocol.proofs.Phases.{in-phase, BusyInv, blocksIn}
-use Rattle.protocol.proofs.Promises.{wrote-over, ends-of}
-use Rattle.protocol.proofs.Steps.{Takes, by-bytes, by-silence}
-use Prim.Native.Nat.{ℕ, _+_, _-_, _*_, _/_, _<_, _≤_, suc}
+use Prim.Native.Nat.{ℕ, _+_, _*_, _<_, suc}
+use lib.Dec.{leb, eqb}
+use lib.ListN.{length}
 use mathlib.Core.Bool.{Bool, true, false, cond, not}
-use mathlib.Core.List.{List, [], _∷_, _++_}
+use mathlib.Core.List.{List, [], _∷_}
 use mathlib.Core.Logic.{_⊎_, inl, inr, ⊎-elim}
 use mathlib.Core.Path.{_≡_, refl, sym, ap, subst, _∙_}
 use native.Mathlib.Omega.{arith}
-use lib.Dec.{eqb}
-use lib.ListN.{length}
-use Rattle.std.proofs.shelf.Tests.{false≢true, true≢false}
-use Rattle.applications.specs.App.{App, Keeps}
-use Rattle.protocol.specs.Agreement.{Agreement, Once, OtherWay, latestGiven, Bearable, latestWaits}
-use Rattle.protocol.specs.Settings.{readerInRange, cardInRange}
-use Rattle.protocol.specs.Reader.{Reader, Says, none, done, taken, notTaken, doubt, says, Call, Ending, Totals, Move, over, isAt, busy, hear, Event, doCall}
-use Rattle.protocol.specs.Field.{givenIn, begunIn, Setup, Step, Fate, IsRun, CanCome, after, viewOf, moveOf, accepted}
-use Rattle.protocol.specs.Turns.{writtenIn, NoneWorse, badTurns}
+use Rattle.std.proofs.shelf.Tests.{true≢false}
+use Rattle.activation.specs.Pps.{offered, greatestRate}
+use Rattle.applications.specs.App.{longestAnswer, Keeps}
+use Rattle.frames.specs.Check.{both}
+use Rattle.frames.specs.Refusals.{settingRefused, rateRefused, lengthRefused, stageRefused}
+use Rattle.frames.specs.Sizes.{sizeOf, greatestFrame}
+use Rattle.protocol.specs.Agreement.{blocksOf, Agreement, OtherWay, latestGiven, Bearable}
+use Rattle.protocol.specs.Field.{givenIn, begunIn, Setup, Step, Fate, IsRun, CanCome, after, moveOf, accepted}
+use Rattle.protocol.specs.Reader.{ask, rate, start, begin, heard, silent, giveUp, close, fetch, unwoken, woken, idle, closed, asks, rates, begins, stops, closes, isCommand, to, active, stopped, fetched, mayClose, guarded, refuse, Reader, Says, none, done, taken, notTaken, doubt, says, Call, Ending, Totals, Move, over, isAt, busy, Event}
+use Rattle.protocol.specs.Turns.{writtenIn}
 use Rattle.protocol.proofs.Basics.{eqb-self}
-use Rattle.protocol.proofs.Doubt.{givenOf, suc-apart, Twin, Twins}
-use Rattle.protocol.proofs.Exactly.{twins}
-use Rattle.protocol.proofs.Ground.{Ground, ground}
+use Rattle.protocol.proofs.Doubt.{guarded-taken, test-taken, suc-apart, Twins}
+use Rattle.protocol.proofs.Exactly.{can-hear, event-move, twins}
+use Rattle.protocol.proofs.Ground.{Ground}
 use Rattle.protocol.proofs.Invariant.{Inv}
 use Rattle.protocol.proofs.Past.{Past, pastIn}
-use Rattle.protocol.proofs.Promises.{totals-of}
+use Rattle.protocol.proofs.Phases.{in-phase, BusyInv, blocksIn}
+use Rattle.protocol.proofs.Promises.{wrote-over, ends-of, totals-of}
 use Rattle.protocol.proofs.Rests.{Laws}
 use Rattle.protocol.proofs.Runs.{run-inv, parameters-of, state-of, moves-of, frames-at-most}
-use Rattle.protocol.proofs.Steps.{busy-of}
+use Rattle.protocol.proofs.Steps.{Takes, by-bytes, by-silence, busy-of}
 use Rattle.protocol.proofs.Views.{same-reader}
 
 module _ (laws : Laws) {S : Type 0} (u : Setup S) (s₀ : S) (G : Ground (u .reader) (u .card)) (keeps : Keeps (u .app)) where

@@ -1,32 +1,15 @@
 -- A frame of the reader at the card of its session.
-use Prim.Native.Nat.{ℕ, _+_, _-_, _*_, _<_, _≤_}
-use mathlib.Core.Bool.{Bool, true, false, cond, not}
-use mathlib.Core.List.{List, [], _∷_, _++_}
-use mathlib.Core.Path.{_≡_, refl, sym, ap, subst, _∙_}
-use lib.Dec.{eqb}
-use lib.ListN.{length, take, drop}
+use Prim.Native.Nat.{ℕ, _<_, _≤_}
+use lib.ListN.{length}
+use mathlib.Core.Bool.{Bool, cond}
+use mathlib.Core.List.{List}
+use mathlib.Core.Path.{_≡_, ap, _∙_}
 use Rattle.frames.specs.Blocks.{Block, I-block, R-block, deselect, wait, frameOf}
 use Rattle.frames.specs.Laws.{Takes}
 use Rattle.frames.specs.Sizes.{sizeOf}
-use Rattle.applications.specs.App.{App}
-use Rattle.protocol.specs.Reader.{Reader, Stage, Link, Exchange, at, Event, Outcome, more}
-use Rattle.protocol.specs.Card.{
-  notGiven,
-  garbled,
-  Awake,
-  Card,
-  awake,
-  CardMove,
-  Owed,
-  Sent,
-  Reply,
-  quiet,
-  reply,
-  cardAgreed,
-  onBlock,
-  takes,
-}
-use Rattle.protocol.specs.Field.{Setup, World, world, Crossing, crossing, arrives, taken, Fate, whole, noted}
+use Rattle.protocol.specs.Card.{notGiven, garbled, Awake, awake, CardMove, Owed, Sent, quiet, cardAgreed, onBlock, takes}
+use Rattle.protocol.specs.Field.{Setup, world, Crossing, crossing, arrives, taken, Fate, whole, noted}
+use Rattle.protocol.specs.Reader.{Reader, Stage, Exchange, at, Event, Outcome}
 use Rattle.protocol.specs.Turns.{logOf, turnOf, outIn}
 use Rattle.protocol.proofs.Basics.{eqb-self}
 use Rattle.protocol.proofs.Delivery.{takes-block}

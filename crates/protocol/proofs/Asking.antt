@@ -1,72 +1,18 @@
 -- An open exchange goes on with an R sent for silence or noise.
-use Prim.Native.Nat.{ℕ, _+_, _-_, _*_, _<_, _≤_}
+use Prim.Native.Nat.{ℕ, _+_, _<_, _≤_}
 use mathlib.Core.Bool.{Bool, true, false, cond, not}
-use mathlib.Core.List.{List, [], _∷_, _++_}
-use mathlib.Core.Path.{_≡_, refl, sym, ap, subst, _∙_}
+use mathlib.Core.List.{List, _∷_}
+use mathlib.Core.Path.{_≡_, refl, sym, ap, _∙_}
 use native.Mathlib.Omega.{arith}
-use lib.ListN.{length, take, drop}
-use Rattle.frames.specs.Blocks.{Block, I-block, R-block, wait, frameOf}
+use Rattle.frames.specs.Blocks.{I-block, R-block, frameOf}
 use Rattle.frames.specs.Causes.{Cause}
-use Rattle.applications.specs.App.{App, Keeps}
-use Rattle.protocol.specs.Reader.{Exchange, Event, more, at, busy, wrote, listening, repeated, askAgain}
-use Rattle.protocol.specs.Card.{
-  Awake,
-  awake,
-  Owed,
-  owesNothing,
-  owesWaits,
-  owesRest,
-  Sent,
-  sent,
-  Reply,
-  quiet,
-  reply,
-  CardMove,
-  onBlock,
-  shut,
-  answerBlock,
-  owedAfter,
-}
-use Rattle.protocol.specs.Field.{Setup, world, Crossing, crossing, arrives, Fate, whole, lost, spoilt, moved}
-use Rattle.protocol.specs.Turns.{Turn, logOf, out, framesOf, isWait, isFresh, lastFresh, isBad, badness, badTurns, badSince}
-use Rattle.protocol.proofs.Arrival.{pastAt, crossed, to-R, arrive-whole}
-use Rattle.protocol.proofs.Basics.{same-self, not-same}
-use Rattle.protocol.proofs.Counting.{count-repeat, stale-same, stale-nak, badBefore}
-use Rattle.protocol.proofs.Ground.{Ground}
-use Rattle.protocol.proofs.Hearing.{turn}
+use Rattle.protocol.specs.Card.{Awake, Reply, quiet, shut}
+use Rattle.protocol.specs.Field.{Setup, Fate, whole, lost, spoilt}
+use Rattle.protocol.specs.Reader.{Exchange, more, repeated, askAgain}
+use Rattle.protocol.specs.Turns.{Turn, framesOf, isFresh, isBad, badness}
+use Rattle.protocol.proofs.Counting.{count-repeat, stale-same, stale-nak}
 use Rattle.protocol.proofs.Naming.{wait-R, nak-is}
-use Rattle.protocol.proofs.Past.{Past}
-use Rattle.protocol.proofs.Phases.{
-  Missed,
-  by-loss,
-  by-spoiling,
-  Echo,
-  sounds,
-  misses,
-  missing,
-  ex,
-  cid,
-  roomTo,
-  roomFrom,
-  linkAt,
-  up,
-  answerTo,
-  waitsFor,
-  ackOf,
-  Behind,
-  unheard,
-  acked,
-  Phase,
-  behind,
-  partTaken,
-  waiting,
-  answering,
-  ackMissed,
-  Count,
-  freshBlock,
-  BusyInv,
-  in-phase,
-}
+use Rattle.protocol.proofs.Phases.{by-loss, by-spoiling, misses, missing, cid, linkAt, unheard, Phase, behind, partTaken, waiting, answering, ackMissed, Count}
 use Rattle.protocol.proofs.Rests.{Laws}
 
 pub missing-most : (fate : Fate) → missing fate ≤ 1

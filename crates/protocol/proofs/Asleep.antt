@@ -1,92 +1,28 @@
 -- The steps of ask and rate keep what holds.
-use Prim.Native.Nat.{ℕ, _+_, _-_, _*_, _<_, _≤_}
-use mathlib.Core.Bool.{Bool, true, false, cond, not}
-use mathlib.Core.List.{List, [], _∷_, _++_}
-use mathlib.Core.Logic.{_⊎_, inl, inr, ⊎-elim}
-use mathlib.Core.Path.{_≡_, refl, sym, ap, subst, _∙_}
-use native.Mathlib.Omega.{arith}
-use lib.Dec.{eqb, ltb, leb}
+use Prim.Native.Nat.{ℕ, _+_, _≤_}
+use lib.Dec.{eqb, ltb}
+use mathlib.Core.Bool.{Bool, true, false, cond}
+use mathlib.Core.List.{List, []}
+use mathlib.Core.Logic.{⊎-elim}
+use mathlib.Core.Path.{_≡_, refl, sym, subst}
+use Rattle.activation.specs.Ats.{AtsRead, good, bad, atsOf, readAtsOpened}
+use Rattle.activation.specs.Pps.{ppsOf, ppsAnswer, offered, greatestRate, ppsAnswerWrong}
+use Rattle.activation.specs.Rats.{ratsOf}
 use Rattle.frames.specs.Causes.{Cause}
-use Rattle.frames.specs.Check.{seal, Opened, opened, unopened}
+use Rattle.frames.specs.Check.{seal, Opened}
 use Rattle.frames.specs.Laws.{Noise}
 use Rattle.frames.specs.Sizes.{sizeOf}
-use Rattle.activation.specs.Ats.{AtsRead, good, bad, atsOf, readAtsOpened}
-use Rattle.activation.specs.Pps.{ppsOf, ppsAnswer, offered, greatestRate, isPpsAnswer, ppsAnswerWrong}
-use Rattle.activation.specs.Rats.{ratsOf}
-use Rattle.applications.specs.App.{App}
-use Rattle.protocol.specs.Settings.{atsFor}
-use Rattle.protocol.specs.Reader.{
-  noCommand,
-  Reader,
-  Stage,
-  asking,
-  woken,
-  rating,
-  failed,
-  idle,
-  at,
-  to,
-  Link,
-  Exchange,
-  Event,
-  bytes,
-  noBytes,
-  Outcome,
-  wrote,
-  wakes,
-  active,
-  over,
-  Move,
-  onAts,
-  onPps,
-  onPpsAnswer,
-  atsIn,
-  openIn,
-  tried,
-  blankLink,
-  blankExchange,
-  noCause,
-  activationTime,
-  tryAgain,
-  fails,
-  linkOf,
-  atRates,
-}
-use Rattle.protocol.specs.Card.{unsent, owesNothing, Card, asleep, awake, CardMove, Reply, quiet, reply, garbled, takes, remains, Given, notGiven}
+use Rattle.protocol.specs.Card.{unsent, owesNothing, asleep, CardMove, Reply, quiet, reply, garbled, takes, notGiven}
 use Rattle.protocol.specs.Field.{Setup, World, world, Crossing, crossing, arrives, taken, crosses, Fate, whole, lost, spoilt, noted}
-use Rattle.protocol.proofs.Arrival.{crossed}
-use Rattle.protocol.proofs.Basics.{eqb-self}
+use Rattle.protocol.specs.Reader.{asking, woken, rating, failed, at, to, Link, Event, bytes, noBytes, wrote, Move, onAts, onPps, onPpsAnswer, atsIn, openIn, tried, blankLink, blankExchange, activationTime, fails}
+use Rattle.protocol.specs.Settings.{atsFor}
 use Rattle.protocol.proofs.Ground.{Ground}
 use Rattle.protocol.proofs.Hearing.{CanHear, quiet-reply, reply-inj}
-use Rattle.protocol.proofs.Invariant.{
-  Maybe,
-  there,
-  gone,
-  past,
-  noLog,
-  rested,
-  AskingInv,
-  sleeps,
-  woke,
-  WokenInv,
-  is-woken,
-  RatingInv,
-  as-before,
-  changed,
-  Up,
-  stands,
-  FailedInv,
-  unheard-of,
-  heard-of,
-  IdleInv,
-  rests,
-  Inv,
-  no-log,
-}
+use Rattle.protocol.proofs.Invariant.{there, gone, past, noLog, rested, AskingInv, sleeps, woke, WokenInv, is-woken, RatingInv, as-before, changed, stands, FailedInv, unheard-of, heard-of, rests, Inv, no-log}
 use Rattle.protocol.proofs.Past.{Past}
 use Rattle.protocol.proofs.Phases.{linkAt, up}
 use Rattle.protocol.proofs.Rests.{Laws}
-use Rattle.protocol.proofs.Saying.{Told, no-command}
+use Rattle.protocol.proofs.Saying.{no-command}
 use Rattle.protocol.proofs.Waking.{noise-unopened, rats-wakes, rats-ignored, pps-ignored, pps-taken, ats-heard, link-is, pps-heard}
 
 module _ (laws : Laws) {S : Type 0} (u : Setup S) (s₀ : S) (G : Ground (u .reader) (u .card)) where

@@ -1,17 +1,16 @@
 -- Small facts about tests, block numbers and lists.
-use Rattle.applications.specs.App.{IsCommand, longestCommand}
-use Rattle.std.proofs.shelf.Lists.{length-append}
-use Prim.Native.Nat.{ℕ, _+_, _-_, _<_, _≤_, min}
-use mathlib.Core.Bool.{Bool, true, false, cond, not}
-use mathlib.Core.List.{List, [], _∷_, _++_}
-use mathlib.Core.Path.{_≡_, refl, sym, ap, subst, _∙_}
+use Prim.Native.Nat.{ℕ, _<_, _≤_}
+use lib.Dec.{eqb}
+use lib.ListN.{length, take}
+use mathlib.Core.Bool.{Bool, true, false, not}
+use mathlib.Core.List.{List, [], _++_}
+use mathlib.Core.Path.{_≡_, refl, ap}
 use native.Mathlib.Omega.{arith}
-use lib.Dec.{eqb, leb, ltb}
-use lib.ListN.{length, take, drop}
-use Rattle.std.proofs.shelf.Lists.{length-take, length-drop, nil-from-length}
-use Rattle.std.proofs.shelf.Tests.{ltb-true, ltb-false, lt-ltb, le-ltb, eq-eqb, false≢true}
+use Rattle.std.proofs.shelf.Lists.{length-append, length-take, nil-from-length}
+use Rattle.std.proofs.shelf.Tests.{ltb-true, ltb-false, lt-ltb, eq-eqb, false≢true}
+use Rattle.applications.specs.App.{IsCommand, longestCommand}
 use Rattle.frames.specs.Check.{both}
-use Rattle.protocol.specs.Reader.{more, same, orElse}
+use Rattle.protocol.specs.Reader.{more, same}
 
 pub both-left : (a b : Bool) → both a b ≡ true → a ≡ true
 both-left true b e = refl

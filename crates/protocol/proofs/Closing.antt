@@ -1,86 +1,26 @@
 -- The steps of close keep what holds.
-use Prim.Native.Nat.{ℕ, _+_, _-_, _*_, _<_, _≤_}
-use mathlib.Core.Bool.{Bool, true, false, cond, not}
-use mathlib.Core.List.{List, [], _∷_, _++_}
-use mathlib.Core.Path.{_≡_, refl, sym, ap, subst, _∙_}
-use native.Mathlib.Omega.{arith}
+use Prim.Native.Nat.{ℕ, _+_, _≤_}
 use lib.Dec.{eqb, ltb, lit≤}
-use Rattle.frames.specs.Blocks.{Block, deselect, Cid, without, frameOf, bytesOf}
+use mathlib.Core.Bool.{Bool, true, false, cond}
+use mathlib.Core.List.{List, []}
+use mathlib.Core.Path.{_≡_, refl, sym, subst}
+use native.Mathlib.Omega.{arith}
+use Rattle.activation.specs.Pps.{noPps}
+use Rattle.applications.specs.App.{App}
+use Rattle.frames.specs.Blocks.{deselect, without, frameOf, bytesOf}
 use Rattle.frames.specs.Causes.{Cause, cardWrong}
-use Rattle.frames.specs.Check.{seal, Opened, opened, openFrame}
+use Rattle.frames.specs.Check.{Opened, opened, openFrame}
 use Rattle.frames.specs.Reading.{Agreed, agrees, Reading, valid, invalid, readFrame}
 use Rattle.frames.specs.Sizes.{sizeOf}
-use Rattle.activation.specs.Pps.{PpsRead, noPps}
-use Rattle.applications.specs.App.{App}
+use Rattle.protocol.specs.Card.{Card, asleep, awake, halted, Awake, CardMove, quiet, garbled, takes, remains, onRats, ratsIn, onPps, ppsIn, onReading, cardAgreed, notGiven}
+use Rattle.protocol.specs.Field.{Setup, world, Crossing, crossing, arrives, taken, crosses, hearsAt, Fate, whole, lost, spoilt, noted, moved}
+use Rattle.protocol.specs.Reader.{closing, closed, at, to, Exchange, Move, wrote, unanswered, onDeselect, tried, noCause, activationTime, blankLink, blankExchange}
 use Rattle.protocol.specs.Settings.{CardSettings}
-use Rattle.protocol.specs.Reader.{
-  Reader,
-  Stage,
-  closing,
-  closed,
-  failed,
-  at,
-  to,
-  Link,
-  Exchange,
-  Move,
-  Outcome,
-  wrote,
-  off,
-  unanswered,
-  onDeselect,
-  tried,
-  noCause,
-  activationTime,
-  blankLink,
-  blankExchange,
-}
-use Rattle.protocol.specs.Card.{
-  Card,
-  asleep,
-  awake,
-  halted,
-  Awake,
-  CardMove,
-  Reply,
-  quiet,
-  reply,
-  garbled,
-  takes,
-  remains,
-  onRats,
-  ratsIn,
-  onPps,
-  ppsIn,
-  onReading,
-  shut,
-  cardAgreed,
-  onBlock,
-  notGiven,
-}
-use Rattle.protocol.specs.Field.{Setup, World, world, Crossing, crossing, arrives, taken, crosses, hearsAt, sendsAt, Fate, whole, lost, spoilt, noted, moved}
 use Rattle.protocol.specs.Turns.{Log}
-use Rattle.protocol.proofs.Arrival.{crossed, arrive-whole, to-deselect}
+use Rattle.protocol.proofs.Arrival.{arrive-whole, to-deselect}
 use Rattle.protocol.proofs.Delivery.{takes-block}
 use Rattle.protocol.proofs.Ground.{Ground}
-use Rattle.protocol.proofs.Invariant.{
-  closing-all,
-  past,
-  noLog,
-  Up,
-  stands,
-  is-off,
-  FailedInv,
-  unheard-of,
-  heard-of,
-  ClosingInv,
-  after-session,
-  after-failure,
-  ClosedInv,
-  is-closed,
-  Inv,
-  LogOk,
-}
+use Rattle.protocol.proofs.Invariant.{closing-all, past, noLog, Up, stands, is-off, FailedInv, unheard-of, heard-of, ClosingInv, after-session, after-failure, is-closed, Inv, LogOk}
 use Rattle.protocol.proofs.Past.{Past}
 use Rattle.protocol.proofs.Phases.{linkAt, up, cid}
 use Rattle.protocol.proofs.Rests.{Laws}

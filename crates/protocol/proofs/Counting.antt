@@ -1,32 +1,19 @@
 -- The counts of an exchange, as one more frame is written.
-use Prim.Native.Nat.{ℕ, _+_, _-_, _*_, _<_, _≤_}
-use mathlib.Core.Bool.{Bool, true, false, cond, not}
-use mathlib.Core.List.{List, [], _∷_, _++_}
-use mathlib.Core.Path.{_≡_, refl, sym, ap, subst, _∙_}
-use native.Mathlib.Nat.{add-mul, one-mul}
-use native.Mathlib.Omega.{arith}
+use Prim.Native.Nat.{ℕ, _+_, _*_, _<_, _≤_}
 use lib.ListN.{length}
-use Rattle.frames.specs.Blocks.{Block, frameOf}
-use Rattle.protocol.specs.Reader.{Exchange, Totals, totalled}
-use Rattle.protocol.specs.Field.{Setup}
-use Rattle.protocol.specs.Turns.{
-  isNak,
-  sameBytes,
-  Turn,
-  framesOf,
-  isWait,
-  isFresh,
-  tally,
-  counted,
-  lastFresh,
-  badness,
-  badSince,
-  blocksFor,
-}
+use mathlib.Core.Bool.{Bool, true, false, cond, not}
+use mathlib.Core.List.{List, _∷_}
+use mathlib.Core.Path.{_≡_, sym, ap, subst, _∙_}
+use native.Mathlib.Nat.{add-mul}
+use native.Mathlib.Omega.{arith}
+use Rattle.frames.specs.Blocks.{frameOf}
 use Rattle.frames.specs.Check.{both}
+use Rattle.protocol.specs.Field.{Setup}
+use Rattle.protocol.specs.Reader.{Exchange, Totals, totalled}
+use Rattle.protocol.specs.Turns.{isNak, sameBytes, Turn, framesOf, isWait, isFresh, tally, counted, lastFresh, badness, badSince, blocksFor}
 use Rattle.protocol.proofs.Basics.{both-false}
 use Rattle.protocol.proofs.Naming.{bytes-same}
-use Rattle.protocol.proofs.Phases.{Count, oneIf, freshBlock, roomTo, roomFrom, answerLeft, blocksIn}
+use Rattle.protocol.proofs.Phases.{Count, oneIf, freshBlock, roomTo, roomFrom, answerLeft}
 
 -- a frame that is a repeat, a wait or fresh, in the tally and for the last fresh frame
 module _ (f g : List ℕ) (fs : List (List ℕ)) where

@@ -1,37 +1,21 @@
 -- A block's frame at an awake card: it is read as that block, and never taken for a PPS.
 use Prim.Native.Nat.{ℕ, _+_, _*_, _<_, _≤_}
-use mathlib.Core.Bool.{Bool, true, false, cond, not}
-use mathlib.Core.List.{List, [], _∷_, _++_}
-use mathlib.Core.Path.{_≡_, refl, sym, ap, _∙_}
-use native.Mathlib.Omega.{arith}
-use lib.Dec.{eqb, ltb, lit≤}
+use lib.Dec.{eqb}
 use lib.ListN.{length}
+use mathlib.Core.Bool.{Bool, true, false, cond}
+use mathlib.Core.List.{List, [], _∷_, _++_}
+use mathlib.Core.Path.{_≡_, refl, ap, _∙_}
+use native.Mathlib.Omega.{arith}
 use Rattle.std.proofs.shelf.Tests.{ne-eqb}
-use Rattle.frames.specs.Blocks.{
-  Block,
-  I-block,
-  R-block,
-  deselect,
-  wait,
-  Cid,
-  weigh,
-  follows,
-  bytesOf,
-  frameOf,
-  cidBytes,
-  I-control,
-  R-control,
-  deselect-control,
-  wait-control,
-}
-use Rattle.frames.specs.Check.{seal, opened, openFrame}
-use Rattle.frames.specs.Laws.{Takes}
-use Rattle.frames.specs.Reading.{readFrame, valid}
-use Rattle.frames.specs.Sizes.{sizeOf}
-use Rattle.activation.specs.Pps.{readPps, noPps, PpsRead}
+use Rattle.activation.specs.Pps.{readPps, noPps}
 use Rattle.applications.specs.App.{App}
+use Rattle.frames.specs.Blocks.{Block, I-block, R-block, deselect, wait, weigh, follows, bytesOf, frameOf, cidBytes, I-control, R-control, deselect-control, wait-control}
+use Rattle.frames.specs.Check.{opened, openFrame}
+use Rattle.frames.specs.Laws.{Takes}
+use Rattle.frames.specs.Reading.{readFrame}
+use Rattle.frames.specs.Sizes.{sizeOf}
+use Rattle.protocol.specs.Card.{Awake, awake, takes, cardAgreed, onBlock, onReading, onPps, ppsIn}
 use Rattle.protocol.specs.Settings.{CardSettings}
-use Rattle.protocol.specs.Card.{Awake, Card, awake, CardMove, takes, cardAgreed, onBlock, onReading, onPps, ppsIn}
 use Rattle.protocol.proofs.Rests.{Laws}
 
 pub weigh-le : (w : ℕ) (b : Bool) → weigh w b ≤ w

@@ -1,106 +1,30 @@
 -- Where the reader is in doubt there are two runs of its view, one with the command given and one without.
-use Rattle.protocol.specs.Settings.{ReaderSettings}
-use Prim.Native.Nat.{ℕ, _+_, _-_, _*_, _<_, _≤_, suc}
+use Prim.Native.Nat.{ℕ, _<_, _≤_, suc}
+use lib.Dec.{eqb, ltb}
+use lib.ListN.{length}
 use mathlib.Core.Bool.{Bool, true, false, cond, not}
 use mathlib.Core.List.{List, [], _∷_, _++_}
-use mathlib.Core.Logic.{_⊎_, inl, inr, ⊎-elim}
+use mathlib.Core.Logic.{inr}
 use mathlib.Core.Path.{_≡_, refl, sym, ap, subst, _∙_}
 use native.Mathlib.Omega.{arith}
-use lib.Dec.{eqb, ltb, leb}
-use lib.ListN.{length, take, drop}
 use Rattle.std.proofs.shelf.Tests.{false≢true, true≢false, ne-eqb}
-use Rattle.frames.specs.Blocks.{Cid, Block, I-block, deselect, frameOf}
-use Rattle.frames.specs.Causes.{Cause}
+use Rattle.applications.specs.App.{longestCommand}
+use Rattle.frames.specs.Blocks.{Cid, I-block, deselect, frameOf}
 use Rattle.frames.specs.Laws.{Noise}
-use Rattle.frames.specs.Refusals.{settingRefused, rateRefused, lengthRefused, stageRefused, bufferRefused}
+use Rattle.frames.specs.Refusals.{stageRefused, bufferRefused}
 use Rattle.frames.specs.Sizes.{greatestFrame}
-use Rattle.applications.specs.App.{App, Keeps, longestCommand, IsCommand}
-use Rattle.protocol.specs.Reader.{
-  Reader,
-  Stage,
-  closing,
-  busy,
-  at,
-  Link,
-  Exchange,
-  Call,
-  ask,
-  rate,
-  start,
-  begin,
-  heard,
-  silent,
-  giveUp,
-  close,
-  fetch,
-  Event,
-  bytes,
-  noBytes,
-  Outcome,
-  refused,
-  wrote,
-  wakes,
-  active,
-  answered,
-  over,
-  stopped,
-  off,
-  unanswered,
-  fetched,
-  Move,
-  refuse,
-  guarded,
-  doCall,
-  hear,
-  isAt,
-  listens,
-  more,
-  says,
-  sayOf,
-  doubt,
-  running,
-  said,
-}
-use Rattle.protocol.specs.Card.{onBlock, Card, asleep, awake, halted, Awake, Owed, owesNothing, Sent, Reply, quiet, reply, Given, notGiven, given, CardMove, remains}
-use Rattle.protocol.specs.Field.{
-  turnedDown,
-  made,
-  callNumber,
-  Setup,
-  World,
-  world,
-  Crossing,
-  crossing,
-  crosses,
-  arrives,
-  taken,
-  Fate,
-  whole,
-  lost,
-  spoilt,
-  Step,
-  after,
-  accepted,
-  moveOf,
-  noted,
-  commandIn,
-  CanCome,
-  IsRun,
-  moved,
-  seenOf,
-  viewOf,
-}
-use Rattle.protocol.specs.Turns.{Turn}
-use Rattle.protocol.proofs.Arrival.{pastAt, crossed, arrive-whole, to-I, to-deselect}
-use Rattle.protocol.proofs.Basics.{eqb-self}
+use Rattle.protocol.specs.Card.{onBlock, Card, asleep, awake, halted, owesNothing, Sent, Reply, quiet, reply, Given, notGiven, given, CardMove, remains}
+use Rattle.protocol.specs.Field.{turnedDown, made, callNumber, Setup, World, world, Crossing, crossing, crosses, arrives, taken, Fate, whole, lost, spoilt, Step, after, accepted, moveOf, noted, commandIn, CanCome, IsRun, seenOf, viewOf}
+use Rattle.protocol.specs.Reader.{Reader, closing, busy, at, Exchange, Call, ask, rate, start, begin, heard, silent, giveUp, close, fetch, bytes, Outcome, refused, wrote, wakes, active, answered, over, stopped, off, unanswered, fetched, Move, refuse, guarded, doCall, hear, isAt, listens, more}
+use Rattle.protocol.specs.Settings.{ReaderSettings}
+use Rattle.protocol.proofs.Arrival.{arrive-whole, to-I, to-deselect}
 use Rattle.protocol.proofs.Ground.{Ground}
-use Rattle.protocol.proofs.Hearing.{CanHear, NoGood}
-use Rattle.protocol.proofs.Invariant.{Up, stands, is-off, past}
+use Rattle.protocol.proofs.Invariant.{Up, stands, is-off}
 use Rattle.protocol.proofs.Past.{Past, pastOf, pastStep, pastIn, refused-same}
-use Rattle.protocol.proofs.Phases.{ex, cid, roomTo, linkAt, up}
+use Rattle.protocol.proofs.Phases.{cid, roomTo, linkAt, up}
 use Rattle.protocol.proofs.Reactions.{at-last}
 use Rattle.protocol.proofs.Rests.{Laws}
-use Rattle.protocol.proofs.Steps.{Takes, by-bytes, by-silence, cond-same}
+use Rattle.protocol.proofs.Steps.{cond-same}
 use Rattle.protocol.proofs.Views.{taken-hear, kept-call, same-reader, crosses-reader}
 
 -- the latest command was given

@@ -1,30 +1,25 @@
 -- How the doubt stands after each turn of an exchange: it opens, stays or is over.
-use Rattle.protocol.proofs.Basics.{fits-command}
-use Rattle.frames.specs.Blocks.{I-block, frameOf}
-use Rattle.protocol.specs.Card.{awake, sent}
-use Rattle.protocol.specs.Field.{arrives}
-use Rattle.protocol.proofs.Phases.{cid, ackOf}
-use Prim.Native.Nat.{ℕ, _+_, _-_, _*_, _<_, _≤_, suc}
-use mathlib.Core.Bool.{Bool, true, false, cond, not}
-use mathlib.Core.List.{List, [], _∷_, _++_}
-use mathlib.Core.Path.{_≡_, refl, sym, ap, subst, _∙_}
-use native.Mathlib.Omega.{arith}
+use Prim.Native.Nat.{ℕ, suc}
 use lib.Dec.{eqb}
 use lib.ListN.{length, take, drop}
-use Rattle.std.proofs.shelf.Lists.{length-append, take-append-drop}
-use Rattle.std.proofs.shelf.Tests.{false≢true, true≢false}
-use Rattle.applications.specs.App.{Keeps, App, IsCommand, longestCommand}
-use Rattle.protocol.specs.Reader.{Reader, Exchange, Event, Move, Call, more, sayOf, said, doubt, running, isAt, closing, orElse}
-use Rattle.protocol.specs.Card.{notGiven, Awake, Reply, Given, given}
-use Rattle.protocol.specs.Field.{Setup, Fate, whole, lost, noted, moved}
+use mathlib.Core.Bool.{Bool, true, false, not}
+use mathlib.Core.List.{List, _∷_, _++_}
+use mathlib.Core.Path.{_≡_, refl, sym, ap, _∙_}
+use Rattle.std.proofs.shelf.Lists.{take-append-drop}
+use Rattle.std.proofs.shelf.Tests.{true≢false}
+use Rattle.applications.specs.App.{Keeps}
+use Rattle.frames.specs.Blocks.{I-block, frameOf}
+use Rattle.protocol.specs.Card.{awake, sent, notGiven, Awake, Reply, Given, given}
+use Rattle.protocol.specs.Field.{arrives, Setup, Fate, whole, lost, noted, moved}
+use Rattle.protocol.specs.Reader.{Exchange, Event, Move, Call, more, sayOf, doubt, running, isAt, closing, orElse}
 use Rattle.protocol.specs.Turns.{Turn}
-use Rattle.protocol.proofs.Basics.{eqb-self, take-pos, take-few, more-pos}
+use Rattle.protocol.proofs.Basics.{fits-command, eqb-self, take-pos, take-few, more-pos}
 use Rattle.protocol.proofs.Doubt.{givenOf, suc-apart, part-given}
 use Rattle.protocol.proofs.Exchanging.{busyPast}
 use Rattle.protocol.proofs.Ground.{Ground}
 use Rattle.protocol.proofs.Hearing.{NoGood}
 use Rattle.protocol.proofs.Past.{Past, pastOf}
-use Rattle.protocol.proofs.Phases.{ex, Phase, behind, partTaken, waiting, answering, ackMissed, roomTo}
+use Rattle.protocol.proofs.Phases.{cid, ackOf, Phase, behind, partTaken, waiting, answering, ackMissed, roomTo}
 use Rattle.protocol.proofs.Rests.{Laws}
 use Rattle.protocol.proofs.Saying.{doubt-parts, done-doubt}
 use Rattle.protocol.proofs.Steps.{Takes, turn-past}

@@ -1,35 +1,23 @@
 -- An exchange that is driven on and borne ends done.
-use Prim.Native.Nat.{suc-le-suc, ℕ, zero, suc, _+_, _-_, _*_, _/_, _<_, _≤_}
-use mathlib.Core.Bool.{Bool, true, false, cond, not}
-use mathlib.Core.List.{List, [], _∷_, _++_}
+use Prim.Native.Nat.{suc-le-suc, ℕ, zero, suc, _+_, _*_, _≤_}
+use lib.ListN.{length}
+use mathlib.Core.Bool.{Bool, true, cond}
+use mathlib.Core.List.{List, _∷_}
 use mathlib.Core.Logic.{_⊎_, inl, inr, ⊎-elim}
 use mathlib.Core.Path.{_≡_, refl, sym, ap, subst, _∙_}
 use native.Mathlib.Omega.{arith}
-use lib.ListN.{length}
+use Rattle.applications.specs.App.{Keeps}
 use Rattle.frames.specs.Sizes.{greatestFrame}
-use Rattle.applications.specs.App.{App, Keeps}
-use Rattle.protocol.specs.Agreement.{
-  Comes,
-  theReply,
-  nothing,
-  noise,
-  Chance,
-  Fair,
-  hearReply,
-  eventFor,
-  driven,
-  Bearable,
-  Ends-done,
-}
-use Rattle.protocol.specs.Reader.{Reader, Stage, busy, Call, heard, silent, Event, bytes, noBytes, Move, Outcome, over, Ending, Says, done, says, Totals, isAt, doCall, hear, Exchange}
+use Rattle.protocol.specs.Agreement.{Comes, theReply, nothing, noise, Chance, Fair, eventFor, driven, Bearable, Ends-done}
 use Rattle.protocol.specs.Card.{Awake, Reply, quiet, reply}
-use Rattle.protocol.specs.Field.{Setup, World, Step, Fate, IsRun, CanCome, after, moveOf, accepted, begunIn, noted}
+use Rattle.protocol.specs.Field.{Setup, World, Step, Fate, IsRun, CanCome, after, moveOf, begunIn}
+use Rattle.protocol.specs.Reader.{busy, Call, Event, bytes, noBytes, Move, over, Ending, Says, done, says, Totals, isAt, doCall, hear, Exchange}
 use Rattle.protocol.specs.Turns.{Turn, logIn}
 use Rattle.protocol.proofs.Agreed.{ends-badly}
 use Rattle.protocol.proofs.Exactly.{can-hear}
 use Rattle.protocol.proofs.Ground.{Ground}
 use Rattle.protocol.proofs.Hearing.{CanHear}
-use Rattle.protocol.proofs.Past.{Past, pastOf, pastStep, pastIn}
+use Rattle.protocol.proofs.Past.{Past, pastOf, pastIn}
 use Rattle.protocol.proofs.Phases.{in-phase, BusyInv, blocksIn}
 use Rattle.protocol.proofs.Rests.{Laws}
 use Rattle.protocol.proofs.Runs.{run-inv, moves-of}

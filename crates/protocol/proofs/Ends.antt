@@ -1,37 +1,20 @@
 -- Both ends of a run in short: what their settings give, and that each can take the blocks of the other.
-use Prim.Native.Nat.{ℕ, _+_, _-_, _*_, _<_, _≤_, zero, suc}
-use mathlib.Core.Bool.{Bool, true, false, cond, not}
-use mathlib.Core.List.{List, [], _∷_, _++_}
-use mathlib.Core.Path.{_≡_, refl, sym, ap, subst, _∙_}
+use Prim.Native.Nat.{ℕ, _+_, _*_, _<_, _≤_, zero, suc}
+use lib.Dec.{eqb, lit<, lit≤}
+use lib.ListN.{length}
+use mathlib.Core.Bool.{Bool, true, false, cond}
+use mathlib.Core.List.{List, [], _∷_}
+use mathlib.Core.Path.{_≡_, refl}
 use native.Mathlib.Omega.{arith}
-use lib.Dec.{eqb, leb, ltb, lit<, lit≤}
-use lib.ListN.{length, take, drop, getD}
-use Rattle.std.proofs.shelf.Lists.{length-append, length-take, length-drop}
-use Rattle.std.proofs.shelf.Tests.{ltb-true, leb-true, eqb-true, eq-eqb}
-use Rattle.frames.specs.Blocks.{
-  Block,
-  I-block,
-  R-block,
-  deselect,
-  wait,
-  Cid,
-  without,
-  numbered,
-  ValidCid,
-  ValidBlock,
-  bytesOf,
-  frameOf,
-  cidBytes,
-  follows,
-}
-use Rattle.frames.specs.Check.{both, seal}
-use Rattle.frames.specs.Laws.{Takes, cidIn}
-use Rattle.frames.specs.Reading.{Agreed, noNumber, number, zeroOrNone, agrees, readFrame, valid}
-use Rattle.frames.specs.Sizes.{sizeOf, sizes, greatestCode}
-use Rattle.protocol.specs.Settings.{ReaderSettings, CardSettings, readerInRange, cardInRange, roomOf}
-use Rattle.protocol.specs.Reader.{agreedOf, more}
-use Rattle.protocol.specs.Card.{cardAgreed, answerCid, answerBlock}
-use Rattle.protocol.proofs.Basics.{both-left, both-right, eqb-self, take-pos, take-few}
+use Rattle.std.proofs.shelf.Lists.{length-append}
+use Rattle.frames.specs.Blocks.{Block, I-block, R-block, deselect, wait, Cid, without, numbered, ValidCid, bytesOf, frameOf, cidBytes}
+use Rattle.frames.specs.Laws.{Takes}
+use Rattle.frames.specs.Reading.{Agreed, number, zeroOrNone, agrees}
+use Rattle.frames.specs.Sizes.{sizeOf, greatestCode}
+use Rattle.protocol.specs.Card.{cardAgreed, answerCid}
+use Rattle.protocol.specs.Reader.{agreedOf}
+use Rattle.protocol.specs.Settings.{CardSettings, roomOf}
+use Rattle.protocol.proofs.Basics.{eqb-self}
 use Rattle.protocol.proofs.Rests.{Laws}
 
 -- every frame size is at least 16

@@ -1,144 +1,32 @@
 -- The reader is in doubt exactly where its view leaves it open.
-use Rattle.frames.specs.Causes.{Cause}
-use Rattle.protocol.specs.Turns.{Log}
-use Rattle.protocol.specs.Field.{world}
-use Rattle.protocol.specs.Reader.{unanswered, orElse, wrote, activationTime}
-use Prim.Native.Nat.{ℕ, _+_, _-_, _*_, _<_, _≤_, suc}
+use Prim.Native.Nat.{ℕ, _+_, suc}
+use lib.Dec.{eqb, ltb, leb}
+use lib.ListN.{length, take, drop}
 use mathlib.Core.Bool.{Bool, true, false, cond, not}
-use mathlib.Core.List.{List, [], _∷_, _++_}
+use mathlib.Core.List.{List, [], _∷_}
 use mathlib.Core.Logic.{_⊎_, inl, inr, ⊎-elim}
 use mathlib.Core.Path.{_≡_, refl, sym, ap, subst, _∙_}
 use native.Mathlib.Omega.{arith}
-use lib.Dec.{eqb, ltb, leb}
-use lib.ListN.{length, take, drop}
-use Rattle.std.proofs.shelf.Lists.{take-append-drop, length-take}
-use Rattle.std.proofs.shelf.Tests.{false≢true, true≢false, leb-true, ltb-true}
-use Rattle.frames.specs.Blocks.{I-block, frameOf, deselect}
-use Rattle.frames.specs.Check.{both, Opened, opened, unopened}
-use Rattle.frames.specs.Refusals.{settingRefused, rateRefused, lengthRefused, stageRefused, bufferRefused}
-use Rattle.frames.specs.Sizes.{sizeOf, greatestFrame}
+use Rattle.std.proofs.shelf.Lists.{length-take}
+use Rattle.std.proofs.shelf.Tests.{false≢true, leb-true, ltb-true}
 use Rattle.activation.specs.Ats.{AtsRead, good, bad}
 use Rattle.activation.specs.Pps.{offered, greatestRate}
-use Rattle.applications.specs.App.{App, Keeps, IsCommand, longestCommand, longestAnswer}
-use Rattle.protocol.specs.Reader.{
-  Reader,
-  Stage,
-  unwoken,
-  asking,
-  woken,
-  rating,
-  failed,
-  idle,
-  busy,
-  ended,
-  closing,
-  closed,
-  stageNumber,
-  at,
-  to,
-  Link,
-  Exchange,
-  Call,
-  ask,
-  rate,
-  start,
-  begin,
-  heard,
-  silent,
-  giveUp,
-  close,
-  fetch,
-  Event,
-  bytes,
-  noBytes,
-  Outcome,
-  fetched,
-  active,
-  Move,
-  refuse,
-  guarded,
-  doCall,
-  hear,
-  isAt,
-  listens,
-  mayClose,
-  isCommand,
-  asks,
-  rates,
-  begins,
-  stops,
-  closes,
-  begun,
-  more,
-  says,
-  sayOf,
-  doubt,
-  none,
-  onAts,
-  onPps,
-  onPpsAnswer,
-  onDeselect,
-  atsIn,
-  openIn,
-  tried,
-  noCause,
-  partBlock,
-}
-use Rattle.protocol.specs.Card.{Card, awake, Reply, quiet, reply, Given, notGiven, given, Owed, owesNothing, Sent}
-use Rattle.protocol.specs.Field.{Setup, World, Crossing, crosses, arrives, Fate, whole, lost, spoilt, Step, after, accepted, moveOf, commandIn, CanCome, IsRun, moved, noted, seenOf, viewOf}
+use Rattle.applications.specs.App.{Keeps, IsCommand, longestAnswer}
+use Rattle.frames.specs.Blocks.{I-block, frameOf, deselect}
+use Rattle.frames.specs.Causes.{Cause}
+use Rattle.frames.specs.Check.{both, Opened, opened, unopened}
+use Rattle.frames.specs.Refusals.{settingRefused, rateRefused, lengthRefused, stageRefused}
+use Rattle.frames.specs.Sizes.{sizeOf, greatestFrame}
+use Rattle.protocol.specs.Card.{Card, awake, Reply, quiet, Given, notGiven, given, owesNothing}
+use Rattle.protocol.specs.Field.{world, Setup, World, crosses, arrives, Fate, whole, lost, Step, after, accepted, moveOf, commandIn, CanCome, IsRun, moved, noted, seenOf}
+use Rattle.protocol.specs.Reader.{unanswered, orElse, wrote, activationTime, Reader, Stage, unwoken, asking, woken, rating, failed, idle, busy, ended, closing, closed, stageNumber, at, to, Link, Exchange, Call, ask, rate, start, begin, heard, silent, giveUp, close, fetch, Event, bytes, noBytes, fetched, active, Move, refuse, guarded, doCall, hear, isAt, listens, mayClose, isCommand, asks, rates, begins, stops, closes, begun, more, says, sayOf, doubt, none, onAts, onPps, onPpsAnswer, onDeselect, atsIn, openIn, tried, noCause}
+use Rattle.protocol.specs.Turns.{Log}
 use Rattle.protocol.proofs.Basics.{both-left, both-right, take-pos, take-few, eqb-self}
-use Rattle.protocol.proofs.Doubt.{
-  givenOf,
-  isHalted,
-  Alike,
-  Twin,
-  Twins,
-  suc-apart,
-  truth-kept,
-  guarded-taken,
-  test-taken,
-  refused-past,
-  extend,
-  extend-lost,
-  extend-refused,
-  opens,
-  part-given,
-  byes,
-  Bye,
-  byeAnswer,
-  byeHalted,
-  alike-along,
-}
+use Rattle.protocol.proofs.Doubt.{givenOf, isHalted, Twin, Twins, suc-apart, truth-kept, guarded-taken, test-taken, extend, extend-lost, extend-refused, opens, part-given, byes, byeAnswer, byeHalted, alike-along}
 use Rattle.protocol.proofs.Doubting.{After, stays, opens-now, turn-doubt, turn-elsewhere}
 use Rattle.protocol.proofs.Ground.{Ground}
 use Rattle.protocol.proofs.Hearing.{CanHear, NoGood}
-use Rattle.protocol.proofs.Invariant.{
-  Inv,
-  InvAt,
-  UnwokenInv,
-  at-start,
-  AskingInv,
-  sleeps,
-  woke,
-  WokenInv,
-  is-woken,
-  RatingInv,
-  as-before,
-  changed,
-  FailedInv,
-  unheard-of,
-  heard-of,
-  IdleInv,
-  rests,
-  EndedInv,
-  is-ended,
-  ClosingInv,
-  after-session,
-  after-failure,
-  Up,
-  stands,
-  is-off,
-}
+use Rattle.protocol.proofs.Invariant.{Inv, InvAt, UnwokenInv, at-start, AskingInv, sleeps, woke, WokenInv, is-woken, RatingInv, as-before, changed, unheard-of, heard-of, IdleInv, rests, is-ended, ClosingInv, after-session, after-failure, Up, stands}
 use Rattle.protocol.proofs.Past.{Past, pastOf, pastStep, pastIn}
 use Rattle.protocol.proofs.Phases.{in-phase, BusyInv, linkAt, up, cid, roomTo}
 use Rattle.protocol.proofs.Rests.{Laws}

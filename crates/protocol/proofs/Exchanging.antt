@@ -1,80 +1,34 @@
 -- What holds after an event of an open exchange.
-use Prim.Native.Nat.{ℕ, _+_, _-_, _*_, _/_, _<_, _≤_}
+use Prim.Native.Nat.{ℕ, _+_, _-_, _/_, _<_, _≤_}
+use lib.ListN.{length, take, drop}
 use mathlib.Core.Bool.{Bool, true, false, cond, not}
 use mathlib.Core.List.{List, [], _∷_, _++_}
 use mathlib.Core.Logic.{⊎-elim}
 use mathlib.Core.Path.{_≡_, refl, sym, ap, subst, _∙_}
 use native.Mathlib.Nat.{div-eq-sub-div, div-eq-of-lt}
 use native.Mathlib.Omega.{arith}
-use lib.ListN.{length, take, drop}
 use Rattle.std.proofs.shelf.Lists.{append-assoc, append-nil, take-append-drop, length-append, length-take, length-drop}
 use Rattle.std.proofs.shelf.Tests.{cases-lt}
-use Rattle.frames.specs.Blocks.{Block, I-block, R-block, wait, frameOf}
+use Rattle.applications.specs.App.{Keeps}
+use Rattle.frames.specs.Blocks.{I-block, wait, frameOf}
 use Rattle.frames.specs.Causes.{Cause}
-use Rattle.applications.specs.App.{App, Keeps, IsCommand}
-use Rattle.protocol.specs.Reader.{
-  idle,
-  ended,
-  Exchange,
-  Event,
-  Move,
-  more,
-  at,
-  busy,
-  noCause,
-  nextPart,
-  appended,
-  completed,
-  rewritten,
-  granted,
-  running,
-  finished,
-}
 use Rattle.protocol.specs.Card.{Awake, awake, Owed, owesNothing, owesRest, Sent, sent, Reply, quiet, answerBlock}
 use Rattle.protocol.specs.Field.{Setup, world, crosses, Fate, moved}
-use Rattle.protocol.specs.Turns.{noFrame, Turn, logOf, out, framesOf, isFresh, lastFresh, sameBytes, badness, badTurns, badSince, blocksFor}
+use Rattle.protocol.specs.Reader.{idle, ended, Exchange, Event, Move, more, at, busy, noCause, nextPart, appended, completed, rewritten, granted}
+use Rattle.protocol.specs.Turns.{noFrame, Turn, logOf, out, framesOf, sameBytes, badTurns, blocksFor}
 use Rattle.protocol.proofs.Arrival.{pastAt}
 use Rattle.protocol.proofs.Basics.{more-pos, more-nil, pos-more, take-pos, take-few}
 use Rattle.protocol.proofs.Counting.{count-repeat, count-wait, count-fresh, stale-same, stale-wait, fresh-since}
 use Rattle.protocol.proofs.Ground.{Ground}
 use Rattle.protocol.proofs.Hearing.{turn}
-use Rattle.protocol.proofs.Invariant.{Inv, EndedInv, is-ended, IdleInv, rests, LogOk, log-ok, busy-inv, past}
+use Rattle.protocol.proofs.Invariant.{Inv, EndedInv, is-ended, IdleInv, rests, log-ok, busy-inv, past}
 use Rattle.protocol.proofs.Naming.{wait-I, nak-I, wait-R, nak-is, wait-is, next-part-differs, first-ack-differs, next-ack-differs}
 use Rattle.protocol.proofs.Onward.{again-goes, part-goes, wait-goes, ack-goes, Goes}
 use Rattle.protocol.proofs.Past.{Past}
-use Rattle.protocol.proofs.Phases.{
-  ex,
-  cid,
-  roomTo,
-  roomFrom,
-  linkAt,
-  up,
-  answerTo,
-  waitsFor,
-  ackOf,
-  Phase,
-  behind,
-  partTaken,
-  waiting,
-  answering,
-  ackMissed,
-  Count,
-  freshBlock,
-}
+use Rattle.protocol.proofs.Phases.{ex, cid, roomTo, roomFrom, linkAt, up, answerTo, ackOf, Phase, behind, partTaken, waiting, answering, ackMissed, Count}
 use Rattle.protocol.proofs.Rests.{Laws}
 use Rattle.protocol.proofs.Saying.{Told, not-given, was-given, was-answered}
-use Rattle.protocol.proofs.Turning.{
-  Turned,
-  again,
-  spends,
-  rewrites,
-  leaves,
-  advances,
-  grants,
-  tires,
-  appends,
-  completes,
-}
+use Rattle.protocol.proofs.Turning.{Turned, again, spends, rewrites, leaves, advances, grants, tires, appends, completes}
 
 -- a full block is one block less
 pub blocks-less : (room n : ℕ) → 0 < room → 0 < n → 1 + blocksFor room (n - room) ≤ blocksFor room n

@@ -1,15 +1,15 @@
 -- What the ranges of the settings give.
-use Prim.Native.Nat.{ℕ, _+_, _<_, _≤_}
-use mathlib.Core.Bool.{Bool, true, false, cond}
-use mathlib.Core.Path.{_≡_}
+use Prim.Native.Nat.{_<_, _≤_}
 use lib.Dec.{leb, ltb}
 use lib.ListN.{length}
+use mathlib.Core.Bool.{Bool, true, false, cond}
+use mathlib.Core.Path.{_≡_}
 use native.Mathlib.Omega.{arith}
 use Rattle.std.proofs.shelf.Tests.{ltb-true, leb-true}
-use Rattle.frames.specs.Check.{both}
-use Rattle.frames.specs.Sizes.{sizeOf, greatestCode}
 use Rattle.activation.specs.Ats.{taGood}
 use Rattle.activation.specs.Laws.{ValidAts}
+use Rattle.frames.specs.Check.{both}
+use Rattle.frames.specs.Sizes.{sizeOf, greatestCode}
 use Rattle.protocol.specs.Settings.{ReaderSettings, CardSettings, readerInRange, cardInRange, atsFor}
 use Rattle.protocol.proofs.Basics.{both-left, both-right}
 use Rattle.protocol.proofs.Ends.{size-least, Fits, fits, cidFor}

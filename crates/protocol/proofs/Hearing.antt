@@ -1,19 +1,18 @@
 -- What the reader makes of what it hears: the card's last block, or nothing good, and then the turn was bad.
-use Prim.Native.Nat.{ℕ, _+_, _<_, _≤_}
-use mathlib.Core.Bool.{Bool, true, false, cond, not}
-use mathlib.Core.List.{List, [], _∷_, _++_}
-use mathlib.Core.Logic.{_⊎_, inl, inr, ⊎-elim}
-use mathlib.Core.Path.{_≡_, refl, sym, ap, subst, _∙_}
+use Prim.Native.Nat.{ℕ}
+use mathlib.Core.Bool.{true}
+use mathlib.Core.List.{List}
+use mathlib.Core.Logic.{_⊎_, ⊎-elim}
+use mathlib.Core.Path.{_≡_, refl, sym, subst}
 use native.Mathlib.Omega.{arith}
 use Rattle.frames.specs.Blocks.{Block, bytesOf, frameOf}
 use Rattle.frames.specs.Causes.{Cause}
-use Rattle.frames.specs.Check.{both, seal}
 use Rattle.frames.specs.Laws.{Noise, Takes}
 use Rattle.frames.specs.Reading.{Agreed, Reading, valid, invalid, readFrame}
-use Rattle.protocol.specs.Reader.{Event, bytes, noBytes, readAs}
 use Rattle.protocol.specs.Card.{Reply, quiet, reply}
-use Rattle.protocol.specs.Field.{Fate, whole, lost, spoilt}
-use Rattle.protocol.specs.Turns.{Turn, isBad, isWhole, isReply, sameBytes}
+use Rattle.protocol.specs.Field.{Fate, whole}
+use Rattle.protocol.specs.Reader.{Event, bytes, noBytes, readAs}
+use Rattle.protocol.specs.Turns.{Turn, isBad}
 use Rattle.protocol.proofs.Delivery.{bytes-pos}
 use Rattle.protocol.proofs.Naming.{bytes-apart}
 use Rattle.protocol.proofs.Phases.{Missed, by-loss, by-spoiling, Echo, sounds, misses}

@@ -1,40 +1,20 @@
 -- What holds at each stage of a session.
-use Prim.Native.Nat.{ℕ, _+_, _-_, _*_, _<_, _≤_}
-use mathlib.Core.Bool.{Bool, true, false, cond, not}
-use mathlib.Core.List.{List, [], _∷_, _++_}
+use Prim.Native.Nat.{ℕ, _*_, _≤_}
+use mathlib.Core.Bool.{Bool, true, false, not}
+use mathlib.Core.List.{List, [], _∷_}
 use mathlib.Core.Path.{_≡_, refl}
 use native.Mathlib.Omega.{arith}
-use lib.ListN.{length}
-use Rattle.frames.specs.Causes.{Cause}
-use Rattle.frames.specs.Check.{seal}
 use Rattle.activation.specs.Ats.{atsOf}
 use Rattle.activation.specs.Pps.{ppsAnswer, offered, greatestRate}
+use Rattle.frames.specs.Causes.{Cause}
+use Rattle.frames.specs.Check.{seal}
+use Rattle.protocol.specs.Card.{Card, asleep, awake, halted, Owed, owesNothing, Sent, unsent, Reply, quiet, reply}
+use Rattle.protocol.specs.Field.{Setup, World, world, moved}
+use Rattle.protocol.specs.Reader.{Stage, unwoken, asking, woken, rating, failed, idle, busy, ended, closing, closed, Link, Exchange, at, tried, blankLink, blankExchange, newReader}
 use Rattle.protocol.specs.Settings.{atsFor}
-use Rattle.protocol.specs.Reader.{
-  Stage,
-  unwoken,
-  asking,
-  woken,
-  rating,
-  failed,
-  idle,
-  busy,
-  ended,
-  closing,
-  closed,
-  Link,
-  Exchange,
-  at,
-  tried,
-  blankLink,
-  blankExchange,
-  newReader,
-}
-use Rattle.protocol.specs.Card.{Card, asleep, awake, halted, Awake, Owed, owesNothing, Sent, unsent, Reply, quiet, reply}
-use Rattle.protocol.specs.Field.{Setup, World, world, moved, Fate}
-use Rattle.protocol.specs.Turns.{Log, logOf, noFrame, out, writtenIn, framesOf, tally, Turn}
+use Rattle.protocol.specs.Turns.{Log, logOf, noFrame, writtenIn, framesOf, tally, Turn}
 use Rattle.protocol.proofs.Past.{Past}
-use Rattle.protocol.proofs.Phases.{linkAt, up, Phase, behind, partTaken, waiting, answering, ackMissed, Count, BusyInv, in-phase}
+use Rattle.protocol.proofs.Phases.{linkAt, up, Count, BusyInv, in-phase}
 use Rattle.protocol.proofs.Saying.{Told, told-phase, no-command}
 
 -- a frame may be there to hear

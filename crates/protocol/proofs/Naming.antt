@@ -1,33 +1,16 @@
 -- Each frame of an exchange is named by itself as what the reader wrote it for.
-use Prim.Native.Nat.{ℕ, _+_, _*_, _<_, _≤_}
-use mathlib.Core.Bool.{Bool, true, false, cond, not}
-use mathlib.Core.List.{List, [], _∷_, _++_}
+use Prim.Native.Nat.{ℕ}
+use lib.Dec.{eqb}
+use lib.ListN.{length, getD}
+use mathlib.Core.Bool.{Bool, true, false, not}
+use mathlib.Core.List.{List, [], _∷_}
 use mathlib.Core.Path.{_≡_, refl, sym, ap, _∙_}
 use native.Mathlib.Omega.{arith}
-use lib.Dec.{eqb}
-use lib.ListN.{length, getD, take}
 use Rattle.std.proofs.shelf.Lists.{getD-take}
-use Rattle.std.proofs.shelf.Tests.{eqb-true, cases-bool, false≢true}
-use Rattle.frames.specs.Blocks.{
-  Block,
-  I-block,
-  R-block,
-  deselect,
-  wait,
-  Cid,
-  weigh,
-  follows,
-  bytesOf,
-  frameOf,
-  cidBytes,
-  I-control,
-  R-control,
-  deselect-control,
-  wait-control,
-}
-use Rattle.frames.specs.Check.{both, seal}
-use Rattle.frames.specs.Reading.{Kind, I-kind, R-kind, wait-kind, kindOf, has}
-use Rattle.protocol.specs.Turns.{controlByte, isWait, isNak, isWaitKind, isRKind, sameBytes}
+use Rattle.std.proofs.shelf.Tests.{eqb-true, false≢true}
+use Rattle.frames.specs.Blocks.{Block, I-block, R-block, wait, Cid, follows, bytesOf, frameOf, I-control, R-control, wait-control}
+use Rattle.frames.specs.Reading.{I-kind, R-kind, wait-kind, kindOf, has}
+use Rattle.protocol.specs.Turns.{controlByte, isWait, isNak, sameBytes}
 use Rattle.protocol.proofs.Basics.{both-left, both-right, both-from, eqb-self}
 use Rattle.protocol.proofs.Delivery.{weigh-le, bytes-pos}
 use Rattle.protocol.proofs.Rests.{Laws}

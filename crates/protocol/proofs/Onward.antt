@@ -1,80 +1,27 @@
 -- An open exchange stays in its phases, whatever frame goes out and whatever becomes of it.
-use Rattle.protocol.proofs.Basics.{fits-command}
-use Prim.Native.Nat.{ℕ, _+_, _-_, _*_, _<_, _≤_}
+use Prim.Native.Nat.{ℕ, _+_, _-_, _<_, _≤_}
+use lib.Dec.{eqb}
+use lib.ListN.{length}
 use mathlib.Core.Bool.{Bool, true, false, cond, not}
 use mathlib.Core.List.{List, [], _∷_, _++_}
 use mathlib.Core.Path.{_≡_, refl, sym, ap, subst, _∙_}
 use native.Mathlib.Omega.{arith}
-use lib.Dec.{eqb}
-use lib.ListN.{length, take, drop}
-use Rattle.std.proofs.shelf.Lists.{append-nil, append-assoc, length-append}
-use Rattle.std.proofs.shelf.Tests.{eqb-true, eqb-false}
+use Rattle.std.proofs.shelf.Lists.{append-nil, append-assoc}
+use Rattle.std.proofs.shelf.Tests.{eqb-false}
+use Rattle.applications.specs.App.{Keeps, IsCommand, longestCommand}
 use Rattle.frames.specs.Blocks.{Cid, Block, I-block, R-block, wait, frameOf}
 use Rattle.frames.specs.Causes.{Cause}
-use Rattle.applications.specs.App.{App, Keeps, IsCommand, longestCommand}
-use Rattle.protocol.specs.Reader.{noCause, Exchange, Event, more, at, busy, repeated, askAgain, partBlock, granted, waitBlock, appended, ackBlock}
-use Rattle.protocol.specs.Card.{
-  notGiven,
-  Awake,
-  awake,
-  Owed,
-  owesNothing,
-  owesWaits,
-  owesRest,
-  Sent,
-  sent,
-  Reply,
-  quiet,
-  reply,
-  CardMove,
-  onBlock,
-  shut,
-  answerBlock,
-  owedAfter,
-  sends,
-  sendsAnswer,
-  asksOrAnswers,
-  gives,
-  remains,
-}
+use Rattle.protocol.specs.Card.{notGiven, Awake, awake, Owed, owesNothing, owesWaits, owesRest, Sent, sent, Reply, CardMove, onBlock, answerBlock, owedAfter, sends, sendsAnswer, asksOrAnswers, gives}
 use Rattle.protocol.specs.Field.{Setup, world, Crossing, crossing, arrives, Fate, whole, lost, spoilt, moved, noted}
-use Rattle.protocol.specs.Turns.{Turn, logOf, out, framesOf, isBad, badness, badTurns}
+use Rattle.protocol.specs.Reader.{noCause, Exchange, Event, more, at, busy, repeated, askAgain, granted}
+use Rattle.protocol.specs.Turns.{Turn, logOf, out, isBad, badness, badTurns}
 use Rattle.protocol.proofs.Arrival.{ToCard, crossed, to-R, to-I, to-wait, arrive-whole}
 use Rattle.protocol.proofs.Asking.{missing-most, again-count, keeps-lost, keeps-spoilt, bad-one}
-use Rattle.protocol.proofs.Basics.{more-nil, more-pos}
+use Rattle.protocol.proofs.Basics.{fits-command, more-nil}
 use Rattle.protocol.proofs.Ground.{Ground}
 use Rattle.protocol.proofs.Hearing.{turn}
 use Rattle.protocol.proofs.Past.{Past}
-use Rattle.protocol.proofs.Phases.{
-  Missed,
-  by-loss,
-  by-spoiling,
-  Echo,
-  sounds,
-  misses,
-  missing,
-  ex,
-  cid,
-  roomTo,
-  roomFrom,
-  linkAt,
-  up,
-  answerTo,
-  waitsFor,
-  ackOf,
-  Behind,
-  unheard,
-  acked,
-  Phase,
-  behind,
-  partTaken,
-  waiting,
-  answering,
-  ackMissed,
-  Count,
-  BusyInv,
-  in-phase,
-}
+use Rattle.protocol.proofs.Phases.{by-loss, by-spoiling, sounds, misses, missing, ex, cid, roomTo, roomFrom, linkAt, up, answerTo, waitsFor, ackOf, unheard, acked, Phase, behind, partTaken, waiting, answering, ackMissed, Count, BusyInv, in-phase}
 use Rattle.protocol.proofs.Reactions.{at-nak, at-equal, at-next, at-chaining, at-last, at-granted}
 use Rattle.protocol.proofs.Rests.{Laws}
 

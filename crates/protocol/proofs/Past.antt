@@ -1,43 +1,11 @@
 -- A run's world with its logs as one value that each step moves.
 use Prim.Native.Nat.{ℕ}
-use mathlib.Core.Bool.{Bool, true, false, cond}
-use mathlib.Core.List.{List, [], _∷_}
+use mathlib.Core.Bool.{Bool, cond}
+use mathlib.Core.List.{List, _∷_}
 use mathlib.Core.Path.{_≡_, refl}
-use Rattle.protocol.specs.Reader.{
-  Reader,
-  Call,
-  ask,
-  rate,
-  start,
-  begin,
-  heard,
-  silent,
-  giveUp,
-  close,
-  fetch,
-  Outcome,
-  refused,
-  Move,
-  refuse,
-  doCall,
-  isAt,
-  busy,
-}
 use Rattle.protocol.specs.Card.{Reply}
-use Rattle.protocol.specs.Field.{
-  Setup,
-  World,
-  Fate,
-  Step,
-  Crossing,
-  crosses,
-  accepted,
-  noted,
-  commandIn,
-  after,
-  begunIn,
-  givenIn,
-}
+use Rattle.protocol.specs.Field.{Setup, World, Fate, Step, Crossing, crosses, accepted, noted, commandIn, after, begunIn, givenIn}
+use Rattle.protocol.specs.Reader.{Call, ask, rate, start, begin, heard, silent, giveUp, close, fetch, Outcome, refused, Move, refuse, doCall, isAt, busy}
 use Rattle.protocol.specs.Turns.{Log, logged, logIn}
 use Rattle.protocol.proofs.Basics.{both-false}
 

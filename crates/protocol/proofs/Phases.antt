@@ -1,45 +1,18 @@
 -- An open exchange is in one of five phases.
 use Prim.Native.Nat.{ℕ, _+_, _-_, _*_, _<_, _≤_}
+use lib.ListN.{length}
 use mathlib.Core.Bool.{Bool, true, false, cond, not}
 use mathlib.Core.List.{List, [], _∷_, _++_}
 use mathlib.Core.Path.{_≡_}
-use lib.ListN.{length}
-use Rattle.frames.specs.Blocks.{Block, I-block, R-block, deselect, wait, Cid, frameOf}
+use Rattle.applications.specs.App.{IsCommand}
+use Rattle.frames.specs.Blocks.{Block, I-block, R-block, wait, Cid, frameOf}
 use Rattle.frames.specs.Causes.{Cause}
 use Rattle.frames.specs.Sizes.{sizeOf}
-use Rattle.applications.specs.App.{App, IsCommand}
-use Rattle.protocol.specs.Settings.{roomOf}
+use Rattle.protocol.specs.Card.{Awake, awake, Owed, owesNothing, owesWaits, owesRest, Sent, sent, Reply, quiet, reply, owedAfter, answerBlock}
+use Rattle.protocol.specs.Field.{Setup, world, Fate, whole, lost, spoilt, moved}
 use Rattle.protocol.specs.Reader.{Link, Exchange, running, totalled, more, at, busy}
-use Rattle.protocol.specs.Card.{
-  Awake,
-  awake,
-  Owed,
-  owesNothing,
-  owesWaits,
-  owesRest,
-  Sent,
-  unsent,
-  sent,
-  Reply,
-  quiet,
-  reply,
-  owedAfter,
-  answerBlock,
-}
-use Rattle.protocol.specs.Field.{Setup, World, world, Fate, whole, lost, spoilt, moved}
-use Rattle.protocol.specs.Turns.{
-  Turn,
-  Log,
-  logOf,
-  out,
-  framesOf,
-  tally,
-  lastFresh,
-  isFresh,
-  badSince,
-  badTurns,
-  blocksFor,
-}
+use Rattle.protocol.specs.Settings.{roomOf}
+use Rattle.protocol.specs.Turns.{Turn, logOf, out, framesOf, tally, lastFresh, isFresh, badSince, badTurns, blocksFor}
 use Rattle.protocol.proofs.Ends.{cidFor}
 use Rattle.protocol.proofs.Past.{Past}
 

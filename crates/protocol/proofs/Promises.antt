@@ -1,96 +1,30 @@
 -- The totals of a result, and the promise to end done.
-use Prim.Native.Nat.{ℕ, _+_, _-_, _*_, _/_, _<_, _≤_, suc}
+use Prim.Native.Nat.{ℕ, _+_, _/_, _≤_}
+use lib.Dec.{ltb, leb}
 use mathlib.Core.Bool.{Bool, true, false, cond, not}
-use mathlib.Core.List.{List, [], _∷_, _++_}
+use mathlib.Core.List.{List, [], _∷_}
 use mathlib.Core.Path.{_≡_, refl, sym, ap, subst, _∙_}
 use native.Mathlib.Omega.{arith}
-use lib.Dec.{eqb, ltb, leb}
-use lib.ListN.{length}
-use Rattle.std.proofs.shelf.Tests.{false≢true, true≢false}
-use Rattle.frames.specs.Causes.{Cause}
-use Rattle.frames.specs.Check.{both}
-use Rattle.frames.specs.Refusals.{settingRefused, rateRefused, lengthRefused, stageRefused, bufferRefused}
-use Rattle.frames.specs.Sizes.{sizeOf, greatestFrame}
 use Rattle.activation.specs.Ats.{AtsRead, good, bad}
 use Rattle.activation.specs.Pps.{offered, greatestRate}
-use Rattle.applications.specs.App.{App, Keeps, longestAnswer}
+use Rattle.applications.specs.App.{Keeps, longestAnswer}
+use Rattle.frames.specs.Causes.{Cause}
+use Rattle.frames.specs.Check.{both, Opened, opened, unopened}
+use Rattle.frames.specs.Refusals.{settingRefused, rateRefused, lengthRefused, stageRefused, bufferRefused}
+use Rattle.frames.specs.Sizes.{sizeOf, greatestFrame}
 use Rattle.protocol.specs.Agreement.{TotalsTrue, latestWaits}
-use Rattle.protocol.specs.Reader.{
-  fetched,
-  Link,
-  Stage,
-  unwoken,
-  asking,
-  woken,
-  rating,
-  failed,
-  idle,
-  busy,
-  ended,
-  closing,
-  closed,
-  Reader,
-  Move,
-  Outcome,
-  wrote,
-  over,
-  answered,
-  stopped,
-  refused,
-  Call,
-  ask,
-  rate,
-  start,
-  begin,
-  heard,
-  silent,
-  giveUp,
-  close,
-  fetch,
-  Event,
-  bytes,
-  noBytes,
-  Totals,
-  totalled,
-  Ending,
-  Says,
-  isAt,
-  listens,
-  mayClose,
-  stageNumber,
-  guarded,
-  refuse,
-  hear,
-  doCall,
-  asks,
-  rates,
-  begins,
-  stops,
-  closes,
-  isCommand,
-  to,
-  active,
-  onAts,
-  onPps,
-  onPpsAnswer,
-  onDeselect,
-  Exchange,
-  atsIn,
-  openIn,
-}
-use Rattle.frames.specs.Check.{Opened, opened, unopened}
 use Rattle.protocol.specs.Card.{Awake, Reply}
-use Rattle.protocol.specs.Field.{Setup, Step, Fate, CanCome, accepted}
-use Rattle.protocol.specs.Turns.{Turn, writtenIn, framesOf, tally, badSince, badTurns, badness, NoneWorse, isBad, isFresh}
+use Rattle.protocol.specs.Field.{Setup, Fate, CanCome}
+use Rattle.protocol.specs.Reader.{fetched, Link, Stage, unwoken, asking, woken, rating, failed, idle, busy, ended, closing, closed, Reader, Move, wrote, over, answered, Call, ask, rate, start, begin, heard, silent, giveUp, close, fetch, Event, bytes, noBytes, Totals, Ending, Says, isAt, listens, mayClose, guarded, refuse, hear, doCall, asks, rates, begins, stops, closes, isCommand, to, active, onAts, onPps, onPpsAnswer, onDeselect, Exchange, atsIn, openIn}
+use Rattle.protocol.specs.Turns.{Turn, writtenIn, framesOf, tally, badTurns, NoneWorse}
 use Rattle.protocol.proofs.Asking.{bad-one}
-use Rattle.protocol.proofs.Exchanging.{busyPast}
 use Rattle.protocol.proofs.Ground.{Ground}
 use Rattle.protocol.proofs.Hearing.{CanHear, turn}
-use Rattle.protocol.proofs.Invariant.{Inv, InvAt, AskingInv, sleeps, woke, RatingInv, as-before, changed, past}
+use Rattle.protocol.proofs.Invariant.{Inv, InvAt, AskingInv, sleeps, woke, RatingInv, as-before, changed}
 use Rattle.protocol.proofs.Past.{Past, pastOf, pastStep}
-use Rattle.protocol.proofs.Phases.{in-phase, Count, BusyInv, linkAt}
+use Rattle.protocol.proofs.Phases.{in-phase, Count, BusyInv}
 use Rattle.protocol.proofs.Rests.{Laws}
-use Rattle.protocol.proofs.Steps.{Takes, by-bytes, by-silence, turn-past, turn-accepted, busy-of}
+use Rattle.protocol.proofs.Steps.{Takes, turn-past, turn-accepted, busy-of}
 use Rattle.protocol.proofs.Turning.{Turned, turns, again, spends, rewrites, leaves, advances, grants, tires, appends, completes}
 
 -- an outcome's totals, through the tests of a call

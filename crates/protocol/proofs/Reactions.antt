@@ -1,38 +1,13 @@
 -- What the card of a session does at each block that its reader sends.
-use Prim.Native.Nat.{ℕ, _+_, _-_, _<_, _≤_}
+use Prim.Native.Nat.{ℕ, _-_, _≤_}
+use lib.ListN.{length}
 use mathlib.Core.Bool.{Bool, true, false, cond, not}
-use mathlib.Core.List.{List, [], _∷_, _++_}
-use mathlib.Core.Path.{_≡_, refl, sym, ap, subst, _∙_}
-use native.Mathlib.Omega.{arith}
-use lib.Dec.{eqb, leb}
-use lib.ListN.{length, take, drop}
+use mathlib.Core.List.{List, [], _++_}
+use mathlib.Core.Path.{_≡_, ap, _∙_}
 use Rattle.std.proofs.shelf.Tests.{le-leb}
+use Rattle.applications.specs.App.{longestCommand}
 use Rattle.frames.specs.Blocks.{Block, I-block, R-block, wait, Cid, frameOf}
-use Rattle.applications.specs.App.{App, longestCommand}
-use Rattle.protocol.specs.Card.{
-  Awake,
-  awake,
-  Owed,
-  owesNothing,
-  owesWaits,
-  owesRest,
-  Sent,
-  sent,
-  Reply,
-  reply,
-  quiet,
-  CardMove,
-  remains,
-  onBlock,
-  onR,
-  sends,
-  sendsAnswer,
-  gives,
-  asksOrAnswers,
-  shut,
-  takesI,
-  answerCid,
-}
+use Rattle.protocol.specs.Card.{awake, Owed, owesNothing, owesWaits, owesRest, Sent, sent, reply, quiet, remains, onBlock, onR, sends, sendsAnswer, gives, asksOrAnswers, answerCid}
 use Rattle.protocol.specs.Field.{Setup}
 use Rattle.protocol.proofs.Basics.{same-self, not-same, eqb-self}
 use Rattle.protocol.proofs.Ground.{Ground}

@@ -1,9 +1,9 @@
 -- The laws that the proofs rest on hold: each is proved in the crate that states it.
-use Rattle.frames.proofs.BlockLaws.{reads-its-frame, never-reads-noise}
-use Rattle.frames.proofs.FrameLaws.{two-more-law, begins-with-its-body, opens-to-its-body, opens-if-sealed}
 use Rattle.activation.proofs.ReadsAts.{reads-ats}
 use Rattle.activation.proofs.ReadsPps.{reads-pps, reads-pps-answer, takes-pps-answer}
 use Rattle.activation.proofs.ReadsRats.{reads-rats}
+use Rattle.frames.proofs.BlockLaws.{reads-its-frame, never-reads-noise}
+use Rattle.frames.proofs.FrameLaws.{two-more-law, begins-with-its-body, opens-to-its-body, opens-if-sealed}
 use Rattle.protocol.proofs.Rests.{Laws}
 
 pub laws : Laws

@@ -1,13 +1,6 @@
 -- What the proofs about runs rest on: the laws of the frames and of the activation formats, and nothing else of them.
-use Rattle.frames.specs.Laws.{
-  Two-more,
-  Begins-with-its-body,
-  Opens-to-its-body,
-  Opens-if-sealed,
-  Reads-its-frame,
-  Never-reads-noise,
-}
 use Rattle.activation.specs.Laws.{Reads-rats, Reads-ats, Reads-pps, Reads-pps-answer, Takes-pps-answer}
+use Rattle.frames.specs.Laws.{Two-more, Begins-with-its-body, Opens-to-its-body, Opens-if-sealed, Reads-its-frame, Never-reads-noise}
 
 pub record Laws : Type 0 where
   pub two-more : Two-more

@@ -1,73 +1,21 @@
 -- What holds after every run, but for the doubt.
-use Rattle.protocol.specs.Card.{Awake}
-use Rattle.protocol.proofs.Phases.{linkAt}
-use Prim.Native.Nat.{ℕ, _+_, _-_, _*_, _/_, _<_, _≤_, suc}
-use mathlib.Core.Bool.{Bool, true, false, cond, not}
-use mathlib.Core.List.{List, [], _∷_, _++_}
-use mathlib.Core.Path.{_≡_, refl, sym, ap, subst, _∙_}
+use Prim.Native.Nat.{ℕ, _+_, _*_, _<_, _≤_, suc}
+use lib.ListN.{length}
+use mathlib.Core.Bool.{Bool, true, false}
+use mathlib.Core.List.{List, [], _∷_}
+use mathlib.Core.Path.{_≡_, refl, ap}
 use native.Mathlib.Nat.{mul-le-mul-right, mul-add, mul-one}
 use native.Mathlib.Omega.{arith}
-use lib.Dec.{eqb, ltb, leb}
-use lib.ListN.{length}
-use Rattle.std.proofs.shelf.Tests.{false≢true}
-use Rattle.frames.specs.Sizes.{sizeOf}
-use Rattle.applications.specs.App.{App, Keeps}
-use Rattle.protocol.specs.Agreement.{
-  InSession,
-  Agree,
-  SameAtBoth,
-  Once,
-  TotalsTrue,
-  Bearable,
-  mostFrames,
-  latestWaits,
-  latestAnswer,
-}
-use Rattle.protocol.specs.Reader.{
-  Stage,
-  unwoken,
-  asking,
-  woken,
-  rating,
-  failed,
-  idle,
-  busy,
-  ended,
-  closing,
-  closed,
-  Reader,
-  Move,
-  Outcome,
-  Call,
-  Event,
-  Totals,
-  totalled,
-  isAt,
-  stageNumber,
-}
-use Rattle.protocol.specs.Field.{Setup, Step, IsRun, moved, accepted}
-use Rattle.protocol.specs.Turns.{Turn, writtenIn, framesOf, tally, counted, isWait, isFresh}
+use Rattle.applications.specs.App.{Keeps}
+use Rattle.protocol.specs.Agreement.{InSession, Agree, SameAtBoth}
+use Rattle.protocol.specs.Card.{Awake}
+use Rattle.protocol.specs.Field.{Setup, Step, IsRun, moved}
+use Rattle.protocol.specs.Reader.{Stage, unwoken, asking, woken, rating, failed, idle, busy, ended, closing, closed, Totals}
+use Rattle.protocol.specs.Turns.{Turn, framesOf, tally, counted, isWait, isFresh}
 use Rattle.protocol.proofs.Ground.{Ground}
-use Rattle.protocol.proofs.Invariant.{
-  Inv,
-  InvAt,
-  at-start,
-  sleeps,
-  woke,
-  is-woken,
-  as-before,
-  changed,
-  unheard-of,
-  heard-of,
-  rests,
-  is-ended,
-  after-session,
-  after-failure,
-  is-closed,
-  past,
-}
+use Rattle.protocol.proofs.Invariant.{Inv, InvAt, at-start, sleeps, woke, is-woken, as-before, changed, unheard-of, heard-of, rests, is-ended, after-session, after-failure, is-closed}
 use Rattle.protocol.proofs.Past.{Past, pastIn}
-use Rattle.protocol.proofs.Phases.{blocksIn, BusyInv, in-phase, Count}
+use Rattle.protocol.proofs.Phases.{linkAt, blocksIn, BusyInv, in-phase}
 use Rattle.protocol.proofs.Rests.{Laws}
 use Rattle.protocol.proofs.Saying.{no-command}
 use Rattle.protocol.proofs.Steps.{step-inv, IsUp, is-up, up-of}

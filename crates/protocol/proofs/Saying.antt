@@ -1,35 +1,17 @@
 -- What the reader says is true, in every phase and after it.
-use Prim.Native.Nat.{ℕ, _+_, _-_, _*_, _<_, _≤_}
-use mathlib.Core.Bool.{Bool, true, false, cond, not}
+use Prim.Native.Nat.{ℕ}
+use mathlib.Core.Bool.{Bool, true, false}
 use mathlib.Core.List.{List, [], _∷_, _++_}
-use mathlib.Core.Logic.{_⊎_, inl, inr}
-use mathlib.Core.Path.{_≡_, refl, sym, ap, subst, _∙_}
+use mathlib.Core.Logic.{inl, inr}
+use mathlib.Core.Path.{_≡_, refl, sym, _∙_}
 use native.Mathlib.Omega.{arith}
-use lib.ListN.{length}
 use Rattle.std.proofs.shelf.Lists.{append-nil}
-use Rattle.protocol.specs.Reader.{
-  Exchange,
-  Says,
-  none,
-  done,
-  taken,
-  notTaken,
-  doubt,
-  said,
-  sayOf,
-  Progress,
-  noCommand,
-  running,
-  finished,
-  more,
-  blankExchange,
-  tried,
-}
 use Rattle.frames.specs.Causes.{Cause}
 use Rattle.protocol.specs.Agreement.{Once, latestAnswer}
 use Rattle.protocol.specs.Card.{Awake, Reply}
 use Rattle.protocol.specs.Field.{Setup, Fate}
-use Rattle.protocol.proofs.Phases.{ex, Phase, behind, partTaken, waiting, answering, ackMissed}
+use Rattle.protocol.specs.Reader.{Exchange, none, done, taken, notTaken, doubt, said, sayOf, Progress, noCommand, running, finished, more, tried}
+use Rattle.protocol.proofs.Phases.{Phase, behind, partTaken, waiting, answering, ackMissed}
 
 -- an open exchange is neither done nor without a command
 pub never-done : (b o c : Bool) → said b o c ≡ done → ⊥

@@ -1,124 +1,35 @@
 -- Every step of a run keeps what holds.
-use Rattle.frames.specs.Refusals.{settingRefused, rateRefused, lengthRefused, stageRefused}
-use Rattle.protocol.proofs.Naming.{wait-I}
-use Rattle.std.proofs.shelf.Lists.{length-drop, take-append-drop}
-use Rattle.protocol.proofs.Phases.{answerTo, answering, ackMissed}
-use Rattle.protocol.proofs.Arrival.{pastAt}
-use Prim.Native.Nat.{ℕ, _+_, _-_, _*_, _<_, _≤_}
-use mathlib.Core.Bool.{Bool, true, false, cond, not}
-use mathlib.Core.List.{List, [], _∷_, _++_}
-use mathlib.Core.Logic.{_⊎_, inl, inr, ⊎-elim}
-use mathlib.Core.Path.{_≡_, refl, sym, ap, subst, _∙_}
-use native.Mathlib.Omega.{arith}
+use Prim.Native.Nat.{ℕ, _-_, _≤_}
 use lib.Dec.{eqb, ltb, leb}
 use lib.ListN.{take-append-drop, length, take, drop}
+use mathlib.Core.Bool.{Bool, true, false, cond, not}
+use mathlib.Core.List.{List, [], _∷_}
+use mathlib.Core.Path.{_≡_, refl, sym, ap, subst}
+use native.Mathlib.Omega.{arith}
+use Rattle.std.proofs.shelf.Lists.{length-drop, take-append-drop}
 use Rattle.std.proofs.shelf.Tests.{false≢true, leb-true, ltb-true}
-use Rattle.frames.specs.Blocks.{deselect, I-block, frameOf}
-use Rattle.frames.specs.Check.{both, seal}
-use Rattle.frames.specs.Sizes.{sizeOf, greatestFrame}
 use Rattle.activation.specs.Pps.{offered, greatestRate}
-use Rattle.applications.specs.App.{App, Keeps, IsCommand, longestCommand, longestAnswer}
-use Rattle.protocol.specs.Reader.{
-  partBlock,
-  totalled,
-  closes,
-  stops,
-  begins,
-  rates,
-  active,
-  asks,
-  Reader,
-  Stage,
-  unwoken,
-  asking,
-  woken,
-  rating,
-  failed,
-  idle,
-  busy,
-  ended,
-  closing,
-  closed,
-  stageNumber,
-  isAt,
-  listens,
-  mayClose,
-  orElse,
-  guarded,
-  isCommand,
-  Exchange,
-  Call,
-  ask,
-  rate,
-  start,
-  begin,
-  heard,
-  silent,
-  giveUp,
-  close,
-  fetch,
-  Event,
-  bytes,
-  noBytes,
-  Move,
-  refuse,
-  hear,
-  doCall,
-  at,
-  to,
-  Link,
-  begun,
-  noCause,
-  tried,
-  more,
-}
-use Rattle.protocol.specs.Card.{quiet, Awake, awake, Reply, Owed, owesNothing, Sent, notGiven}
-use Rattle.protocol.specs.Field.{arrives, Setup, World, world, Fate, Step, crosses, accepted, noted, CanCome, moved}
-use Rattle.protocol.specs.Turns.{counted, outIn, turnOf, Log, logOf, out, Turn, isFresh, blocksFor}
-use Rattle.protocol.proofs.Asleep.{rating-all, asking-all, asking-turn, rating-turn, rats-to-asleep, pps-to-rested, woken-all}
-use Rattle.protocol.proofs.Basics.{both-left, both-right, both-false, take-pos, take-few}
-use Rattle.protocol.proofs.Closing.{closing-turn, closes-session, closes-heard, closes-unheard, crossedPast}
-use Rattle.protocol.proofs.Exchanging.{turn-inv, turnedPast, busyPast, blocks-less}
+use Rattle.applications.specs.App.{Keeps, IsCommand, longestAnswer}
+use Rattle.frames.specs.Blocks.{I-block, frameOf}
+use Rattle.frames.specs.Check.{both}
+use Rattle.frames.specs.Refusals.{settingRefused, rateRefused, lengthRefused, stageRefused}
+use Rattle.frames.specs.Sizes.{greatestFrame}
+use Rattle.protocol.specs.Card.{quiet, Awake, awake, Reply, Owed, owesNothing, Sent}
+use Rattle.protocol.specs.Field.{arrives, Setup, world, Fate, Step, crosses, accepted, noted, CanCome, moved}
+use Rattle.protocol.specs.Reader.{partBlock, totalled, closes, stops, begins, rates, active, asks, Stage, unwoken, asking, woken, rating, failed, idle, busy, ended, closing, closed, stageNumber, isAt, listens, mayClose, orElse, guarded, isCommand, Exchange, Call, ask, rate, start, begin, heard, silent, giveUp, close, fetch, Event, bytes, noBytes, Move, refuse, hear, at, to, begun, noCause, tried, more}
+use Rattle.protocol.specs.Turns.{counted, outIn, turnOf, logOf, out, Turn, blocksFor}
+use Rattle.protocol.proofs.Arrival.{pastAt}
+use Rattle.protocol.proofs.Asleep.{rating-all, asking-all, asking-turn, rating-turn, rats-to-asleep, pps-to-rested}
+use Rattle.protocol.proofs.Basics.{both-left, both-right, take-pos, take-few}
+use Rattle.protocol.proofs.Closing.{closing-turn, closes-session, closes-heard, closes-unheard}
+use Rattle.protocol.proofs.Exchanging.{turn-inv, blocks-less}
 use Rattle.protocol.proofs.Ground.{Ground}
 use Rattle.protocol.proofs.Hearing.{CanHear}
-use Rattle.protocol.proofs.Invariant.{
-  changed,
-  woke,
-  as-before,
-  sleeps,
-  log-ok,
-  no-log,
-  past,
-  noLog,
-  InvAt,
-  Inv,
-  LogOk,
-  UnwokenInv,
-  at-start,
-  AskingInv,
-  WokenInv,
-  is-woken,
-  RatingInv,
-  FailedInv,
-  unheard-of,
-  heard-of,
-  IdleInv,
-  rests,
-  EndedInv,
-  is-ended,
-  ClosingInv,
-  after-session,
-  after-failure,
-  ClosedInv,
-  is-closed,
-  Up,
-  stands,
-  busy-inv,
-  closing-all,
-}
+use Rattle.protocol.proofs.Invariant.{changed, woke, as-before, sleeps, log-ok, no-log, past, InvAt, Inv, LogOk, UnwokenInv, at-start, AskingInv, WokenInv, is-woken, RatingInv, unheard-of, heard-of, IdleInv, rests, is-ended, after-failure, stands, busy-inv, closing-all}
+use Rattle.protocol.proofs.Naming.{wait-I}
 use Rattle.protocol.proofs.Onward.{pastBy, part-goes}
 use Rattle.protocol.proofs.Past.{Past, pastOf, pastStep, refused-same}
-use Rattle.protocol.proofs.Phases.{answering, waiting, partTaken, behind, linkAt, up, cid, roomTo, roomFrom, ex, Phase, Count, BusyInv, in-phase}
+use Rattle.protocol.proofs.Phases.{answerTo, answering, ackMissed, waiting, partTaken, behind, linkAt, up, cid, roomTo, roomFrom, Phase, Count, BusyInv, in-phase}
 use Rattle.protocol.proofs.Rests.{Laws}
 use Rattle.protocol.proofs.Saying.{Told, told-phase, told-tried, no-command}
 use Rattle.protocol.proofs.Turning.{Turned, turns, again, spends, rewrites, leaves, advances, grants, tires, appends, completes}

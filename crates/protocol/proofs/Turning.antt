@@ -1,104 +1,28 @@
 -- What an event does to an open exchange: nine ways, and no other.
-use Prim.Native.Nat.{ℕ, _+_, _-_, _*_, _<_, _≤_}
-use mathlib.Core.Bool.{Bool, true, false, cond, not}
-use mathlib.Core.List.{List, [], _∷_, _++_}
-use mathlib.Core.Path.{_≡_, refl, sym, ap, subst, _∙_}
-use native.Mathlib.Omega.{arith}
+use Prim.Native.Nat.{ℕ, _+_, _<_, _≤_}
 use lib.Dec.{leb, ltb}
 use lib.ListN.{length, take, drop}
+use mathlib.Core.Bool.{Bool, true, false, cond, not}
+use mathlib.Core.List.{List, [], _∷_, _++_}
+use mathlib.Core.Path.{_≡_, refl, ap}
+use native.Mathlib.Omega.{arith}
 use Rattle.std.proofs.shelf.Lists.{length-append, length-take}
-use Rattle.std.proofs.shelf.Tests.{ltb-true, ltb-false, le-leb, false≢true}
-use Rattle.frames.specs.Blocks.{Block, I-block, R-block, wait, frameOf}
+use Rattle.std.proofs.shelf.Tests.{ltb-true, ltb-false, le-leb}
+use Rattle.applications.specs.App.{IsCommand, Keeps, longestAnswer}
+use Rattle.frames.specs.Blocks.{Block, wait, frameOf}
 use Rattle.frames.specs.Causes.{Cause}
-use Rattle.frames.specs.Check.{both}
 use Rattle.frames.specs.Laws.{Takes}
 use Rattle.frames.specs.Reading.{Agreed, Reading, valid, invalid}
 use Rattle.frames.specs.Sizes.{sizeOf}
-use Rattle.applications.specs.App.{App, IsCommand, Keeps, longestAnswer}
-use Rattle.protocol.specs.Settings.{ReaderSettings, CardSettings}
-use Rattle.protocol.specs.Reader.{
-  Exchange,
-  Link,
-  Event,
-  bytes,
-  noBytes,
-  Move,
-  more,
-  same,
-  readAs,
-  agreedOf,
-  onReading,
-  onBlock,
-  onInvalid,
-  onInformation,
-  onAnswer,
-  onAck,
-  writes,
-  ends,
-  to,
-  idle,
-  answered,
-  done,
-  repeated,
-  rewritten,
-  nextPart,
-  granted,
-  appended,
-  completed,
-  shown,
-  askAgain,
-  partBlock,
-  waitBlock,
-  ackBlock,
-  spent,
-  waitsSpent,
-}
-use Rattle.protocol.specs.Card.{
-  Awake,
-  Owed,
-  owesNothing,
-  owesWaits,
-  owesRest,
-  Sent,
-  sent,
-  Reply,
-  reply,
-  answerBlock,
-  owedAfter,
-}
+use Rattle.protocol.specs.Card.{Awake, owesNothing, owesWaits, Sent, sent, Reply, reply, answerBlock, owedAfter}
 use Rattle.protocol.specs.Field.{Setup, Fate, whole, moved}
+use Rattle.protocol.specs.Reader.{Exchange, Event, bytes, Move, more, readAs, agreedOf, onReading, onAnswer, writes, ends, to, idle, answered, done, repeated, rewritten, nextPart, granted, appended, completed, shown, askAgain, partBlock, waitBlock, ackBlock, spent, waitsSpent}
 use Rattle.protocol.specs.Turns.{Turn, isBad, badTurns}
-use Rattle.protocol.proofs.Basics.{same-self, same-not, take-pos, take-few, more-pos}
+use Rattle.protocol.proofs.Basics.{same-self, same-not, take-pos, take-few}
 use Rattle.protocol.proofs.Ends.{takes-R, takes-wait, takes-I}
 use Rattle.protocol.proofs.Ground.{Ground}
 use Rattle.protocol.proofs.Hearing.{NoGood, CanHear, turn, Heard, amiss, well, hear-echo, hear-nothing}
-use Rattle.protocol.proofs.Phases.{
-  by-loss,
-  by-spoiling,
-  Missed,
-  Echo,
-  sounds,
-  misses,
-  missing,
-  ex,
-  cid,
-  roomTo,
-  roomFrom,
-  linkAt,
-  up,
-  answerTo,
-  waitsFor,
-  ackOf,
-  Behind,
-  unheard,
-  acked,
-  Phase,
-  behind,
-  partTaken,
-  waiting,
-  answering,
-  ackMissed,
-}
+use Rattle.protocol.proofs.Phases.{by-loss, by-spoiling, Missed, sounds, misses, missing, ex, cid, roomTo, roomFrom, linkAt, up, answerTo, waitsFor, ackOf, unheard, acked, Phase, behind, partTaken, waiting, answering, ackMissed}
 use Rattle.protocol.proofs.Rests.{Laws}
 
 module _ {S : Type 0} (u : Setup S) (s₀ : S) where

@@ -1,121 +1,24 @@
 -- The reader's state is a function of its view.
-use Rattle.protocol.specs.Reader.{readAs, agreedOf}
-use Rattle.std.proofs.shelf.Tests.{cond-both}
-use Rattle.frames.specs.Causes.{Cause}
-use lib.ListN.{length}
-use mathlib.Core.List.{_++_}
-use Rattle.protocol.specs.Card.{takes, garbled, quiet, notGiven}
-use Rattle.protocol.specs.Field.{hearsAt, taken, crossing, world, Crossing}
-use Prim.Native.Nat.{ℕ, _+_}
-use mathlib.Core.Bool.{Bool, true, false, cond, not}
-use mathlib.Core.List.{List, [], _∷_}
-use mathlib.Core.Path.{_≡_, refl, sym, ap, subst, _∙_}
+use Prim.Native.Nat.{ℕ}
 use lib.Dec.{eqb, ltb, leb}
-use Rattle.std.proofs.shelf.Tests.{false≢true, true≢false}
+use lib.ListN.{length}
+use mathlib.Core.Bool.{Bool, true, false, cond, not}
+use mathlib.Core.List.{_++_, List, [], _∷_}
+use mathlib.Core.Path.{_≡_, refl, sym, ap, _∙_}
+use Rattle.std.proofs.shelf.Tests.{cond-both, false≢true, true≢false}
+use Rattle.activation.specs.Ats.{AtsRead, good, bad}
+use Rattle.activation.specs.Pps.{offered, greatestRate}
+use Rattle.applications.specs.App.{longestAnswer}
 use Rattle.frames.specs.Blocks.{Block, I-block, R-block, deselect, wait}
+use Rattle.frames.specs.Causes.{Cause}
 use Rattle.frames.specs.Check.{both, Opened, opened, unopened}
 use Rattle.frames.specs.Reading.{Reading, valid, invalid}
 use Rattle.frames.specs.Refusals.{settingRefused, rateRefused, lengthRefused, stageRefused, bufferRefused}
 use Rattle.frames.specs.Sizes.{sizeOf, greatestFrame}
-use Rattle.activation.specs.Ats.{AtsRead, good, bad}
-use Rattle.activation.specs.Pps.{offered, greatestRate, isPpsAnswer, ppsAnswerWrong}
-use Rattle.applications.specs.App.{longestAnswer}
+use Rattle.protocol.specs.Card.{takes, garbled, quiet, notGiven, Card}
+use Rattle.protocol.specs.Field.{hearsAt, taken, crossing, world, Crossing, Setup, World, Fate, whole, lost, spoilt, Step, crosses, arrives, after, accepted, moveOf, Seen, Asked, made, turnedDown, seenOf, callNumber, viewOf}
+use Rattle.protocol.specs.Reader.{readAs, agreedOf, Stage, unwoken, asking, woken, rating, failed, idle, busy, ended, closing, closed, Reader, newReader, Move, Outcome, refused, wrote, wakes, active, answered, over, stopped, off, unanswered, fetched, Call, ask, rate, start, begin, heard, silent, giveUp, close, fetch, Event, bytes, noBytes, isAt, listens, mayClose, stageNumber, guarded, refuse, hear, doCall, asks, rates, begins, stops, closes, isCommand, to, onAts, onPps, onPpsAnswer, onDeselect, onReading, onBlock, onInformation, onAnswer, onAck, onEqual, onOther, Exchange, Link, atsIn, openIn, orElse}
 use Rattle.protocol.specs.Settings.{ReaderSettings}
-use Rattle.protocol.specs.Reader.{
-  Stage,
-  unwoken,
-  asking,
-  woken,
-  rating,
-  failed,
-  idle,
-  busy,
-  ended,
-  closing,
-  closed,
-  Reader,
-  newReader,
-  Move,
-  Outcome,
-  refused,
-  wrote,
-  wakes,
-  active,
-  answered,
-  over,
-  stopped,
-  off,
-  unanswered,
-  fetched,
-  Call,
-  ask,
-  rate,
-  start,
-  begin,
-  heard,
-  silent,
-  giveUp,
-  close,
-  fetch,
-  Event,
-  bytes,
-  noBytes,
-  isAt,
-  listens,
-  mayClose,
-  stageNumber,
-  guarded,
-  refuse,
-  hear,
-  doCall,
-  asks,
-  rates,
-  begins,
-  stops,
-  closes,
-  isCommand,
-  to,
-  onAts,
-  onPps,
-  onPpsAnswer,
-  onDeselect,
-  onReading,
-  onBlock,
-  onInvalid,
-  onInformation,
-  onAnswer,
-  onAck,
-  onEqual,
-  onOther,
-  onWait,
-  Exchange,
-  Link,
-  atsIn,
-  openIn,
-  orElse,
-}
-use Rattle.protocol.specs.Card.{Card, Reply}
-use Rattle.protocol.specs.Field.{
-  Setup,
-  World,
-  Fate,
-  whole,
-  lost,
-  spoilt,
-  Step,
-  crosses,
-  arrives,
-  after,
-  accepted,
-  moveOf,
-  Seen,
-  Asked,
-  made,
-  turnedDown,
-  seenOf,
-  callNumber,
-  viewOf,
-}
 
 -- a step does not change the reader behind its call's back
 arrives-reader : {S : Type 0} (u : Setup S) (r : Reader) (c : Card) (s : S) (f : List ℕ) (fate : Fate) → arrives u r c s f fate .after .reader ≡ r

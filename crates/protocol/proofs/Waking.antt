@@ -1,50 +1,27 @@
 -- Waking a card: what holds while the reader asks, and while it chooses rates.
-use Prim.Native.Nat.{ℕ, _+_, _-_, _*_, _<_, _≤_, zero, suc}
-use mathlib.Core.Bool.{Bool, true, false, cond, not}
-use mathlib.Core.List.{List, [], _∷_, _++_}
-use mathlib.Core.Logic.{_⊎_, inl, inr, ⊎-elim}
-use mathlib.Core.Path.{_≡_, refl, sym, ap, subst, _∙_}
-use native.Mathlib.Omega.{arith}
-use lib.Dec.{eqb, ltb, lit≤}
+use Prim.Native.Nat.{ℕ, _+_, _*_, _<_, _≤_, zero, suc}
+use lib.Dec.{lit≤}
 use lib.ListN.{length}
+use mathlib.Core.Bool.{Bool, true, false, cond}
+use mathlib.Core.List.{List, [], _∷_}
+use mathlib.Core.Path.{_≡_, refl, sym, ap, _∙_}
+use native.Mathlib.Omega.{arith}
+use Rattle.activation.specs.Ats.{good, hearAts, readAtsOpened, atsOf}
+use Rattle.activation.specs.Pps.{PpsRead, pps, noPps, ppsOf, ppsAnswer, readPps, offered, greatestRate}
+use Rattle.activation.specs.Rats.{RatsRead, rats, ratsOf}
+use Rattle.applications.specs.App.{App}
+use Rattle.frames.specs.Blocks.{numbered, without}
 use Rattle.frames.specs.Causes.{Cause, noKind}
 use Rattle.frames.specs.Check.{seal, Opened, opened, unopened, openFrame}
 use Rattle.frames.specs.Laws.{Noise}
-use Rattle.frames.specs.Reading.{Agreed, Reading, valid, invalid, readFrame, readOpened, kindOf, has, Kind, no-kind}
+use Rattle.frames.specs.Reading.{Agreed, Reading, invalid, readFrame, readOpened, kindOf, has, no-kind}
 use Rattle.frames.specs.Sizes.{sizeOf}
-use Rattle.frames.specs.Blocks.{numbered, without}
-use Rattle.activation.specs.Ats.{Ats, AtsRead, good, bad, hearAts, readAtsOpened, readAts, atsOf, supportsCid}
-use Rattle.activation.specs.Pps.{PpsRead, pps, noPps, ppsOf, ppsAnswer, readPps, offered, greatestRate, isPpsAnswer}
-use Rattle.activation.specs.Rats.{RatsRead, rats, noRats, ratsOf, readRats}
-use Rattle.applications.specs.App.{App}
-use Rattle.protocol.specs.Settings.{CardSettings, atsFor}
-use Rattle.protocol.specs.Reader.{Event, bytes, noBytes, Reader, Link, linkOf, atsIn, openIn}
-use Rattle.protocol.specs.Card.{
-  Awake,
-  Card,
-  asleep,
-  awake,
-  CardMove,
-  Reply,
-  quiet,
-  reply,
-  takes,
-  remains,
-  onRats,
-  ratsIn,
-  onPps,
-  ppsIn,
-  onReading,
-  shut,
-  woken,
-  changed,
-  cardAgreed,
-}
+use Rattle.protocol.specs.Card.{Awake, asleep, awake, quiet, reply, takes, remains, onRats, ratsIn, onPps, ppsIn, onReading, shut, woken, changed, cardAgreed}
 use Rattle.protocol.specs.Field.{Setup}
+use Rattle.protocol.specs.Reader.{linkOf}
+use Rattle.protocol.specs.Settings.{CardSettings, atsFor}
 use Rattle.protocol.proofs.Ends.{cidFor}
 use Rattle.protocol.proofs.Ground.{Ground}
-use Rattle.protocol.proofs.Hearing.{CanHear}
-use Rattle.protocol.proofs.Invariant.{Maybe, there, gone}
 use Rattle.protocol.proofs.Phases.{linkAt, cid}
 use Rattle.protocol.proofs.Rests.{Laws}
 

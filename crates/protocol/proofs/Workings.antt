@@ -1,14 +1,13 @@
 -- The worked cases hold.
 use mathlib.Core.Bool.{true, false}
 use mathlib.Core.Path.{refl, ap}
-use lib.Dec.{lit≤}
 use native.Mathlib.Omega.{arith}
-use Rattle.frames.specs.Blocks.{R-block, without, frameOf, bytesOf}
-use Rattle.frames.specs.Reading.{noNumber, Reading}
+use Rattle.activation.proofs.Waiting15.{waiting-15-fails}
 use Rattle.frames.proofs.BlockLaws.{reads-its-frame}
 use Rattle.frames.proofs.FrameLaws.{two-more-law}
-use Rattle.activation.proofs.Waiting15.{waiting-15-fails}
-use Rattle.protocol.specs.Examples.{Worked, repeating, afterSilence, leastLink}
+use Rattle.frames.specs.Blocks.{R-block, without, bytesOf}
+use Rattle.frames.specs.Reading.{noNumber, Reading}
+use Rattle.protocol.specs.Examples.{Worked, afterSilence, leastLink}
 use Rattle.protocol.specs.Reader.{onReading}
 
 pub worked : Worked

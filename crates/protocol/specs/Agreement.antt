@@ -1,71 +1,20 @@
 -- What holds after every run of a reader and a card, stopped anywhere.
 use Prim.Native.Nat.{ℕ, zero, suc, _+_, _*_, _/_, _<_, _≤_}
-use mathlib.Core.Bool.{Bool, true, false, cond, not}
-use mathlib.Core.List.{List, [], _∷_, _++_}
-use mathlib.Core.Path.{_≡_}
-use mathlib.Core.Logic.{_⊎_}
 use lib.Dec.{eqb}
 use lib.ListN.{length}
-use Rattle.frames.specs.Blocks.{Cid, without, numbered}
+use mathlib.Core.Bool.{Bool, true, cond, not}
+use mathlib.Core.List.{List, [], _∷_, _++_}
+use mathlib.Core.Logic.{_⊎_}
+use mathlib.Core.Path.{_≡_}
+use Rattle.applications.specs.App.{App, Keeps}
+use Rattle.frames.specs.Blocks.{without, numbered}
 use Rattle.frames.specs.Laws.{Noise}
 use Rattle.frames.specs.Sizes.{sizeOf, greatestFrame}
-use Rattle.applications.specs.App.{App, Keeps}
-use Rattle.protocol.specs.Settings.{ReaderSettings, CardSettings, readerInRange, cardInRange, roomOf}
-use Rattle.protocol.specs.Reader.{
-  Reader,
-  Link,
-  Stage,
-  unwoken,
-  asking,
-  woken,
-  rating,
-  failed,
-  idle,
-  busy,
-  ended,
-  closing,
-  closed,
-  Says,
-  none,
-  done,
-  taken,
-  notTaken,
-  doubt,
-  says,
-  Totals,
-  Outcome,
-  refused,
-  wrote,
-  wakes,
-  active,
-  answered,
-  over,
-  stopped,
-  off,
-  unanswered,
-  fetched,
-  Ending,
-  Call,
-  heard,
-  silent,
-  isAt,
-}
 use Rattle.protocol.specs.Card.{Card, asleep, awake, halted, Awake, Reply, quiet, reply}
-use Rattle.protocol.specs.Field.{
-  Setup,
-  World,
-  Step,
-  Fate,
-  after,
-  IsRun,
-  CanCome,
-  begunIn,
-  givenIn,
-  moved,
-  viewOf,
-  moveOf,
-}
-use Rattle.protocol.specs.Turns.{Log, logIn, writtenIn, tally, badTurns, NoneWorse, blocksFor}
+use Rattle.protocol.specs.Field.{Setup, Step, Fate, after, IsRun, CanCome, begunIn, givenIn, moved, viewOf, moveOf}
+use Rattle.protocol.specs.Reader.{Link, Stage, unwoken, asking, woken, rating, failed, idle, busy, ended, closing, closed, Says, none, done, taken, notTaken, doubt, says, Totals, Outcome, refused, wrote, wakes, active, answered, over, stopped, off, unanswered, fetched, Ending, Call, heard, silent, isAt}
+use Rattle.protocol.specs.Settings.{ReaderSettings, CardSettings, readerInRange, cardInRange, roomOf}
+use Rattle.protocol.specs.Turns.{logIn, writtenIn, tally, badTurns, NoneWorse, blocksFor}
 
 -- (a) The parameters.
 

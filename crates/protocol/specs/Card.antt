@@ -1,17 +1,17 @@
 -- The card's rules: what it does at each frame, over any application.
-use Prim.Native.Nat.{ℕ, _+_, _-_}
-use mathlib.Core.Bool.{Bool, true, false, cond, not}
-use mathlib.Core.List.{List, [], _∷_, _++_}
-use lib.Dec.{eqb, leb, ltb}
+use Prim.Native.Nat.{ℕ, _-_}
+use lib.Dec.{eqb, leb}
 use lib.ListN.{length, take, drop}
-use Rattle.frames.specs.Blocks.{Block, I-block, R-block, deselect, wait, Cid, without, numbered, frameOf}
-use Rattle.frames.specs.Check.{both, seal, Opened, opened, unopened, openFrame}
-use Rattle.frames.specs.Reading.{Agreed, noNumber, number, zeroOrNone, Reading, valid, invalid, readFrame}
-use Rattle.frames.specs.Sizes.{sizeOf}
+use mathlib.Core.Bool.{Bool, true, false, cond, not}
+use mathlib.Core.List.{List, [], _++_}
 use Rattle.activation.specs.Ats.{atsOf}
 use Rattle.activation.specs.Pps.{PpsRead, pps, noPps, readPps, offered, ppsAnswer}
 use Rattle.activation.specs.Rats.{RatsRead, rats, noRats, readRats}
 use Rattle.applications.specs.App.{App, longestCommand}
+use Rattle.frames.specs.Blocks.{Block, I-block, R-block, deselect, wait, Cid, without, numbered, frameOf}
+use Rattle.frames.specs.Check.{seal, Opened, opened, unopened, openFrame}
+use Rattle.frames.specs.Reading.{Agreed, noNumber, number, zeroOrNone, Reading, valid, invalid, readFrame}
+use Rattle.frames.specs.Sizes.{sizeOf}
 use Rattle.protocol.specs.Reader.{more, same}
 use Rattle.protocol.specs.Settings.{CardSettings, atsFor, roomOf}
 

@@ -1,39 +1,16 @@
 -- Cases that anyone can work out by hand.
-use Prim.Native.Nat.{ℕ, _≤_}
-use mathlib.Core.Bool.{Bool, true, false}
-use mathlib.Core.List.{List, [], _∷_}
+use Prim.Native.Nat.{ℕ}
+use lib.ListN.{replicate}
+use mathlib.Core.Bool.{true, false}
+use mathlib.Core.List.{[], _∷_}
 use mathlib.Core.Path.{_≡_}
-use lib.ListN.{length, replicate}
+use Rattle.activation.specs.Examples.{Waiting-15-fails}
 use Rattle.frames.specs.Blocks.{R-block, without, frameOf}
 use Rattle.frames.specs.Causes.{silence}
 use Rattle.frames.specs.Examples.{Examples}
 use Rattle.frames.specs.Sizes.{sizeOf, greatestFrame}
-use Rattle.activation.specs.Examples.{Waiting-15-fails}
+use Rattle.protocol.specs.Reader.{Reader, Link, Move, wrote, over, spent, notTaken, doubt, totalled, at, idle, blankExchange, begun, more, nextPart, doCall, begin, heard, silent, listening}
 use Rattle.protocol.specs.Settings.{ReaderSettings, roomOf}
-use Rattle.protocol.specs.Reader.{
-  Reader,
-  Link,
-  Exchange,
-  Move,
-  Outcome,
-  wrote,
-  over,
-  spent,
-  notTaken,
-  doubt,
-  totalled,
-  at,
-  idle,
-  blankExchange,
-  begun,
-  more,
-  nextPart,
-  doCall,
-  begin,
-  heard,
-  silent,
-  listening,
-}
 
 -- a reader that repeats so often
 abbrev pub repeating : ℕ → ReaderSettings

@@ -1,55 +1,15 @@
 -- Reader and card over the field, and runs of them.
-use Prim.Native.Nat.{ℕ, _+_}
-use mathlib.Core.Bool.{Bool, true, false, cond, not}
-use mathlib.Core.List.{List, [], _∷_, _++_}
-use mathlib.Core.Path.{_≡_}
-use mathlib.Core.Logic.{_⊎_}
+use Prim.Native.Nat.{ℕ}
 use lib.Dec.{eqb}
-use Rattle.frames.specs.Laws.{Noise}
+use mathlib.Core.Bool.{Bool, true, false, cond}
+use mathlib.Core.List.{List, [], _∷_}
+use mathlib.Core.Logic.{_⊎_}
+use mathlib.Core.Path.{_≡_}
 use Rattle.applications.specs.App.{App}
-use Rattle.protocol.specs.Reader.{
-  Reader,
-  Call,
-  ask,
-  rate,
-  start,
-  begin,
-  heard,
-  silent,
-  giveUp,
-  close,
-  fetch,
-  Outcome,
-  refused,
-  wrote,
-  wakes,
-  active,
-  answered,
-  over,
-  stopped,
-  off,
-  unanswered,
-  fetched,
-  Move,
-  doCall,
-  newReader,
-}
+use Rattle.frames.specs.Laws.{Noise}
+use Rattle.protocol.specs.Card.{Card, asleep, awake, halted, Reply, quiet, reply, Given, notGiven, given, CardMove, garbled, takes}
+use Rattle.protocol.specs.Reader.{Reader, Call, ask, rate, start, begin, heard, silent, giveUp, close, fetch, Outcome, refused, wrote, wakes, active, answered, over, stopped, off, unanswered, fetched, Move, doCall, newReader}
 use Rattle.protocol.specs.Settings.{ReaderSettings, CardSettings}
-use Rattle.protocol.specs.Card.{
-  Card,
-  asleep,
-  awake,
-  halted,
-  Reply,
-  quiet,
-  reply,
-  Given,
-  notGiven,
-  given,
-  CardMove,
-  garbled,
-  takes,
-}
 
 -- a frame's way to the card: it arrives whole, is lost, or arrives spoilt
 pub data Fate : Type 0 where

@@ -1,19 +1,19 @@
 -- The reader's rules: its calls, what each answers, and what the reader says of its command.
 use Prim.Native.Nat.{ℕ, _+_, _*_, _^_, min}
-use mathlib.Core.Bool.{Bool, true, false, cond, not}
-use mathlib.Core.List.{List, [], _∷_, _++_}
 use lib.Dec.{eqb, leb, ltb}
 use lib.ListN.{length, take, drop}
+use mathlib.Core.Bool.{Bool, true, false, cond, not}
+use mathlib.Core.List.{List, [], _++_}
+use Rattle.activation.specs.Ats.{Ats, AtsRead, good, bad, hearAts, supportsCid}
+use Rattle.activation.specs.Pps.{greatestRate, offered, ppsOf, isPpsAnswer, ppsAnswerWrong}
+use Rattle.activation.specs.Rats.{ratsOf}
+use Rattle.applications.specs.App.{longestCommand, longestAnswer}
 use Rattle.frames.specs.Blocks.{Block, I-block, R-block, deselect, wait, Cid, without, numbered, frameOf}
 use Rattle.frames.specs.Causes.{Cause, cause, block, silence}
 use Rattle.frames.specs.Check.{both, seal, Opened, opened, unopened, openFrame}
 use Rattle.frames.specs.Reading.{Agreed, noNumber, number, Reading, valid, invalid, readFrame}
 use Rattle.frames.specs.Refusals.{settingRefused, rateRefused, lengthRefused, stageRefused, bufferRefused}
 use Rattle.frames.specs.Sizes.{sizeOf, greatestFrame}
-use Rattle.activation.specs.Ats.{Ats, AtsRead, good, bad, hearAts, supportsCid}
-use Rattle.activation.specs.Pps.{greatestRate, offered, ppsOf, isPpsAnswer, ppsAnswerWrong}
-use Rattle.activation.specs.Rats.{ratsOf}
-use Rattle.applications.specs.App.{longestCommand, longestAnswer}
 use Rattle.protocol.specs.Settings.{ReaderSettings, roomOf}
 
 -- What the reader says of its latest command: there is none; it was answered; it was given to the application; it was

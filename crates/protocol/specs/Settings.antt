@@ -1,13 +1,13 @@
 -- What each end is set to before a run.
 use Prim.Native.Nat.{ℕ, _-_}
-use mathlib.Core.Bool.{Bool, true, false, cond, not}
-use mathlib.Core.List.{List}
 use lib.Dec.{leb, ltb}
 use lib.ListN.{length}
+use mathlib.Core.Bool.{Bool, cond}
+use mathlib.Core.List.{List}
+use Rattle.activation.specs.Ats.{Ats, ats, taGood}
 use Rattle.frames.specs.Blocks.{Cid, without, numbered}
 use Rattle.frames.specs.Check.{both}
 use Rattle.frames.specs.Sizes.{greatestCode}
-use Rattle.activation.specs.Ats.{Ats, ats, taGood}
 
 -- the reader's: the code of its frame size, the number that it gives the card, how often it repeats a fresh frame, and
 -- how many waits of an exchange it grants

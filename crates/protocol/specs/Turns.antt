@@ -1,43 +1,14 @@
 -- The frames of the latest exchange, as they were really written, and the turns that they took.
-use Prim.Native.Nat.{ℕ, _+_, _*_, _-_, _/_, _≤_}
-use mathlib.Core.Bool.{Bool, true, false, cond, not}
-use mathlib.Core.List.{List, [], _∷_, _++_}
+use Prim.Native.Nat.{ℕ, _+_, _-_, _/_, _≤_}
 use lib.Dec.{eqb}
-use lib.ListN.{length, getD}
+use lib.ListN.{getD}
+use mathlib.Core.Bool.{Bool, true, false, cond, not}
+use mathlib.Core.List.{List, [], _∷_}
 use Rattle.frames.specs.Check.{both}
 use Rattle.frames.specs.Reading.{Kind, I-kind, R-kind, deselect-kind, wait-kind, no-kind, kindOf, has}
-use Rattle.protocol.specs.Reader.{
-  Call,
-  ask,
-  rate,
-  start,
-  begin,
-  heard,
-  silent,
-  giveUp,
-  close,
-  fetch,
-  Outcome,
-  refused,
-  wrote,
-  wakes,
-  active,
-  answered,
-  over,
-  stopped,
-  off,
-  unanswered,
-  fetched,
-  Totals,
-  totalled,
-  isAt,
-  busy,
-  Event,
-  bytes,
-  noBytes,
-}
 use Rattle.protocol.specs.Card.{Reply, quiet, reply}
 use Rattle.protocol.specs.Field.{Fate, whole, lost, spoilt, Setup, Step, after, accepted, moveOf}
+use Rattle.protocol.specs.Reader.{Call, ask, rate, start, begin, heard, silent, giveUp, close, fetch, Outcome, refused, wrote, wakes, active, answered, over, stopped, off, unanswered, fetched, Totals, totalled, isAt, busy, Event, bytes, noBytes}
 
 -- a turn: a frame written in an exchange with its fate, what could then be heard of the card, and the event taken
 pub record Turn : Type 0 where
