@@ -248,56 +248,40 @@ nextPart room x =
       came = x .came;
     }
 
--- silence or an invalid block: a repeat
-abbrev pub repeated : Cause → Exchange → Exchange
-repeated c x =
+-- the same command and answer with other counts and marks
+abbrev pub recounted : Exchange → Totals → ℕ → Cause → ℕ → Bool → Bool → Exchange
+recounted x totals since why stretch other came =
     record {
       progress = running;
       number = x .number;
       part = x .part;
       rest = x .rest;
       answer = x .answer;
-      totals = totalled (x .totals .fresh) (x .totals .repeats + 1) (x .totals .waits);
-      since = x .since + 1;
-      why = c;
-      stretch = x .stretch;
-      other = x .other;
-      came = x .came;
+      totals = totals;
+      since = since;
+      why = why;
+      stretch = stretch;
+      other = other;
+      came = came;
     }
+
+-- silence or an invalid block: a repeat
+abbrev pub repeated : Cause → Exchange → Exchange
+repeated c x =
+    recounted x (totalled (x .totals .fresh) (x .totals .repeats + 1) (x .totals .waits)) (x .since + 1) c (x .stretch)
+    (x .other) (x .came)
 
 -- R(ACK) of the other number: the part is written again, a repeat
 abbrev pub rewritten : Exchange → Exchange
 rewritten x =
-    record {
-      progress = running;
-      number = x .number;
-      part = x .part;
-      rest = x .rest;
-      answer = x .answer;
-      totals = totalled (x .totals .fresh) (x .totals .repeats + 1) (x .totals .waits);
-      since = x .since + 1;
-      why = x .why;
-      stretch = 0;
-      other = false;
-      came = x .came;
-    }
+    recounted x (totalled (x .totals .fresh) (x .totals .repeats + 1) (x .totals .waits)) (x .since + 1) (x .why) 0 false
+    (x .came)
 
 -- a wait is granted; it is neither fresh nor a repeat
 abbrev pub granted : ℕ → Exchange → Exchange
 granted m x =
-    record {
-      progress = running;
-      number = x .number;
-      part = x .part;
-      rest = x .rest;
-      answer = x .answer;
-      totals = totalled (x .totals .fresh) (x .totals .repeats) (x .totals .waits + 1);
-      since = x .since;
-      why = x .why;
-      stretch = m;
-      other = x .other;
-      came = orElse (x .came) (not (more (x .rest)));
-    }
+    recounted x (totalled (x .totals .fresh) (x .totals .repeats) (x .totals .waits + 1)) (x .since) (x .why) m (x .other)
+    (orElse (x .came) (not (more (x .rest))))
 
 -- a chaining I of equal number: its information is appended, and R(ACK) goes out, fresh
 abbrev pub appended : List ℕ → Exchange → Exchange
@@ -336,19 +320,7 @@ completed info x =
 -- the exchange ends here, with what the last block showed of the command
 abbrev pub shown : Bool → Bool → Exchange → Exchange
 shown other came x =
-    record {
-      progress = running;
-      number = x .number;
-      part = x .part;
-      rest = x .rest;
-      answer = x .answer;
-      totals = x .totals;
-      since = x .since;
-      why = x .why;
-      stretch = x .stretch;
-      other = orElse other (x .other);
-      came = orElse came (x .came);
-    }
+    recounted x (x .totals) (x .since) (x .why) (x .stretch) (orElse other (x .other)) (orElse came (x .came))
 
 -- The reader's blocks.
 
