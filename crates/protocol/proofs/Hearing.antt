@@ -44,7 +44,7 @@ reply-inj f g e = cc
 
 module _ (laws : Laws) (limit : ℕ) (agreed : Agreed) where
   -- noise reads as invalid
-  noise-invalid : (g : List ℕ) → Noise g → (c : Cause) × (readFrame limit agreed g ≡ invalid c)
+  pub noise-invalid : (g : List ℕ) → Noise g → (c : Cause) × (readFrame limit agreed g ≡ invalid c)
   noise-invalid g n = go (readFrame limit agreed g) refl
     where
       go : (r : Reading) → readFrame limit agreed g ≡ r → (c : Cause) × (readFrame limit agreed g ≡ invalid c)

@@ -12,6 +12,7 @@ pub mod Driving
 pub mod Ends
 pub mod Exactly
 pub mod Exchanging
+pub mod Garbling
 pub mod Ground
 pub mod Hearing
 pub mod Invariant

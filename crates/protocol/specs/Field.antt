@@ -7,7 +7,7 @@ use mathlib.Core.Logic.{_⊎_}
 use mathlib.Core.Path.{_≡_}
 use Rattle.applications.specs.App.{App}
 use Rattle.frames.specs.Laws.{Noise}
-use Rattle.protocol.specs.Card.{Card, asleep, awake, halted, Reply, quiet, reply, Given, notGiven, given, CardMove, garbled, takes}
+use Rattle.protocol.specs.Card.{remains, Card, asleep, awake, halted, Reply, quiet, reply, Given, notGiven, given, CardMove, garbled, takes}
 use Rattle.protocol.specs.Reader.{Reader, Call, ask, rate, start, begin, heard, silent, giveUp, close, fetch, Outcome, refused, wrote, wakes, active, answered, over, stopped, off, unanswered, fetched, Move, doCall, newReader}
 use Rattle.protocol.specs.Settings.{ReaderSettings, CardSettings}
 
@@ -193,3 +193,10 @@ abbrev pub viewOf : {S : Type 0} → Setup S → S → List Step → List Seen
 viewOf u s [] = []
 viewOf u s (st ∷ run) =
     seenOf (st .call) (moveOf u (after u s run) (st .call) .outcome) ∷ viewOf u s run
+
+-- Whatever bytes a spoilt frame arrives as, as long as they are noise, the card takes them as the field has it.
+abbrev pub Noise-is-garbled : Type 0 → Type 0
+Noise-is-garbled S =
+    (app : App S) (set : CardSettings) (c : Card) (s : S) (f : List ℕ)
+    → Noise f
+    → takes app set c s f ≡ remains (garbled c) s quiet
