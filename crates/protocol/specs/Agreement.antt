@@ -87,7 +87,7 @@ TotalsTrue off fs = Unit {0}
 TotalsTrue unanswered fs = Unit {0}
 TotalsTrue (fetched a) fs = Unit {0}
 
--- what bears out the promise to end done: no fresh frame meets more bad turns than half its repeats, and all bad turns with
+-- when the promise to end done is owed: no fresh frame meets more bad turns than half its repeats, and all bad turns with
 -- the application's waits are within the waits granted
 abbrev pub Bearable : {S : Type 0} → Setup S → S → List Step → Type 0
 Bearable u s run =
@@ -137,7 +137,7 @@ pub record Agreement {S : Type 0} (u : Setup S) (s : S) (run : List Step) : Type
   pub waits-few : tally (writtenIn (logIn u s run)) .waits ≤ u .reader .waits
   -- so the frames of an exchange are at most fresh × (repeats + 1) + waits
   pub frames-few : length (writtenIn (logIn u s run)) ≤ tally (writtenIn (logIn u s run)) .fresh * (u .reader .repeats + 1) + u .reader .waits
-  -- an exchange that ends against the reader's will was borne more than it could bear
+  -- an exchange that ends by 6, 7, 8 or 9 met more than is bearable
   pub ends-done : (c : Call) (fate : Fate) (e : Ending) (y : Says) (t : Totals)
       → CanCome (after u s run) c
       → isAt busy (after u s run .reader) ≡ true
