@@ -12,6 +12,14 @@ use Rattle.std.proofs.shelf.Tests.{le-leb}
 use Rattle.buffers.specs.Over.{over, overAt}
 use Rattle.buffers.proofs.Overs.{part-written, over-behind, take-over, length-over}
 
+-- what a store has to show for an append
+pub record Appended (room len : ℕ) (bytes more part : List ℕ) : Type 0 where
+  pub value : true ≡ leb (length (take len bytes) + length more) room
+  pub gathers : take (len + length more) (putMid len (room - len) bytes part) ≡ take len bytes ++ more
+  pub others : putMid len (room - len) bytes part ≡ overAt len more bytes
+  pub within : len + length more ≤ room
+  pub whole : length (putMid len (room - len) bytes part) ≡ room
+
 module _ (room len : ℕ) (bytes more part : List ℕ) (whole : length bytes ≡ room) (within : len ≤ room) (fits : length more ≤ room - len) where
   abbrev after : List ℕ
   after = putMid len (room - len) bytes part
@@ -22,11 +30,11 @@ module _ (room len : ℕ) (bytes more part : List ℕ) (whole : length bytes ≡
   long : length (take len bytes ++ more) ≡ len + length more
   long = length-append (take len bytes) more ∙ ap (λ n. n + length more) (length-take-le len bytes short)
 
-  pub fits-still : true ≡ leb (length (take len bytes) + length more) room
+  fits-still : true ≡ leb (length (take len bytes) + length more) room
   fits-still = sym (le-leb (length (take len bytes) + length more) room (omega (arith, length-take-le len bytes short)))
 
   module _ (copied : part ≡ over more (take (room - len) (drop len bytes))) where
-    pub no-other-byte : after ≡ overAt len more bytes
+    no-other-byte : after ≡ overAt len more bytes
     no-other-byte =
         ap (λ r. putMid len (r - len) bytes part) (sym whole)
         ∙ part-written len more bytes part (copied ∙ ap (λ r. over more (take (r - len) (drop len bytes))) (sym whole))
@@ -34,8 +42,18 @@ module _ (room len : ℕ) (bytes more part : List ℕ) (whole : length bytes ≡
     front : after ≡ over (take len bytes ++ more) bytes
     front = no-other-byte ∙ over-behind len more bytes short
 
-    pub still-whole : length after ≡ room
+    still-whole : length after ≡ room
     still-whole = ap length front ∙ length-over (take len bytes ++ more) bytes (omega (arith, long)) ∙ whole
 
-    pub gathered : take (len + length more) after ≡ take len bytes ++ more
+    gathered : take (len + length more) after ≡ take len bytes ++ more
     gathered = ap (λ l. take (len + length more) l) front ∙ take-over (take len bytes ++ more) bytes (len + length more) (sym long)
+
+    pub appended : Appended room len bytes more part
+    appended =
+        record {
+          value = fits-still;
+          gathers = gathered;
+          others = no-other-byte;
+          within = omega arith;
+          whole = still-whole;
+        }

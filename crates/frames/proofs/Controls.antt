@@ -13,7 +13,7 @@ use Rattle.frames.specs.Blocks.{I-control, R-control, deselect-control, wait-c
 use Rattle.frames.specs.Reading.{Kind, I-kind, R-kind, deselect-kind, wait-kind, no-kind, kindOf, isKind, has}
 
 -- two functions of a byte that are equal at all bytes
-at-all : {X : Type 0} (f g : ℕ → X) (d : X) → map f (counting 0 256) ≡ map g (counting 0 256) → (v : ℕ) → v < 256 → f v ≡ g v
+pub at-all : {X : Type 0} (f g : ℕ → X) (d : X) → map f (counting 0 256) ≡ map g (counting 0 256) → (v : ℕ) → v < 256 → f v ≡ g v
 at-all f g d e v small =
     sym (getD-map-counting f 0 256 v v d small (omega arith)) ∙ ap (λ l. getD l v d) e
     ∙ getD-map-counting g 0 256 v v d small (omega arith)

@@ -1,6 +1,6 @@
 // Blocks, as they are sent and as they are read.
 ghost use mathlib.Core.Path.{_≡_};
-ghost use Rattle.frames.specs.declared.block.Block.the-variants.{I};
+ghost use Rattle.frames.specs.declared.block.Block.the-variants.{I, R, Deselect, Wait};
 ghost use Rattle.frames.specs.Views.{cidSeen, informationPlace};
 
 // A card number (CID) with the power level that it was sent with.
@@ -73,6 +73,29 @@ impl<'a> Block<'a> {
             card,
             place: information_place(card),
             information,
+        }
+    }
+
+    // R(ACK), or R(NAK).
+    pub fn acknowledging(nak: bool, number: bool, card: Option<CardNumber>) -> Block<'a>
+        ensures { λ r. ⌜ r ≡ R nak number card ⌝ }
+    {
+        Block::R { nak, number, card }
+    }
+
+    pub fn deselecting(card: Option<CardNumber>) -> Block<'a>
+        ensures { λ r. ⌜ r ≡ Deselect card ⌝ }
+    {
+        Block::Deselect { card }
+    }
+
+    pub fn waiting(multiplier: u8, power: u8, card: Option<CardNumber>) -> Block<'a>
+        ensures { λ r. ⌜ r ≡ Wait multiplier power card ⌝ }
+    {
+        Block::Wait {
+            multiplier,
+            power,
+            card,
         }
     }
 }

@@ -1,12 +1,11 @@
 // The bits of a control byte, by their weights.
 ghost use mathlib.Core.Path.{_≡_};
-ghost use Prim.Native.Nat.{_≤_};
+ghost use Prim.Native.Nat.{_+_, _≤_};
 ghost use Rattle.frames.specs.Blocks.{weigh};
 ghost use Rattle.frames.specs.Reading.{has};
 
-pub const CHAINING: u8 = 0x10;
-
-pub const NAK: u8 = 0x10;
+// Chaining in an I-block, NAK in an R-block.
+pub const FLAG: u8 = 0x10;
 
 // A card number byte follows.
 pub const CARD: u8 = 0x08;
@@ -26,4 +25,12 @@ pub fn weighed(weight: u8, bit: bool) -> u8
     ensures bound { λ r. ⌜ r ≤ weight ⌝ }
 {
     if bit { weight } else { 0 }
+}
+
+// The control byte of a block with a block number, from its fixed bits; `flag` is chaining or NAK.
+pub fn numbered_control(fixed: u8, flag: bool, card: bool, number: bool) -> u8
+    requires { ⌜ fixed ≤ 0xA2 ⌝ }
+    ensures { λ r. ⌜ r ≡ fixed + weigh 0x10 flag + weigh 0x08 card + weigh 0x01 number ⌝ }
+{
+    fixed + weighed(FLAG, flag) + weighed(CARD, card) + weighed(NUMBER, number)
 }

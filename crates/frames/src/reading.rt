@@ -15,8 +15,7 @@ use super::block::Block;
 use super::block::CardNumber;
 use super::block::information_place;
 use super::control::CARD;
-use super::control::CHAINING;
-use super::control::NAK;
+use super::control::FLAG;
 use super::control::NUMBER;
 use super::control::has_bit;
 use super::fault::BlockFault;
@@ -122,14 +121,14 @@ fn block_of<'a>(
     let place = information_place(card);
     match kind {
         Kind::I => Ok(Block::I {
-            chaining: has_bit(CHAINING, control),
+            chaining: has_bit(FLAG, control),
             number: has_bit(NUMBER, control),
             card,
             place,
             information: &rest[place - 2..],
         }),
         Kind::R => Ok(Block::R {
-            nak: has_bit(NAK, control),
+            nak: has_bit(FLAG, control),
             number: has_bit(NUMBER, control),
             card,
         }),

@@ -13,9 +13,7 @@ use super::block::Block;
 use super::block::CardNumber;
 use super::block::information_place;
 use super::control::CARD;
-use super::control::CHAINING;
-use super::control::NAK;
-use super::control::NUMBER;
+use super::control::numbered_control;
 use super::control::weighed;
 use super::frame::CHECK;
 use super::frame::GREATEST_FRAME;
@@ -94,17 +92,11 @@ fn put_block(block: Block<'_>, out: &mut [u8]) -> usize
             information,
             ..
         } => {
-            let control = 0x02
-                + weighed(CHAINING, chaining)
-                + weighed(CARD, card.is_some())
-                + weighed(NUMBER, number);
+            let control = numbered_control(0x02, chaining, card.is_some(), number);
             put_parts(control, card, information, out)
         }
         Block::R { nak, number, card } => {
-            let control = 0xA2
-                + weighed(NAK, nak)
-                + weighed(CARD, card.is_some())
-                + weighed(NUMBER, number);
+            let control = numbered_control(0xA2, nak, card.is_some(), number);
             put_parts(control, card, &[], out)
         }
         Block::Deselect { card } => put_parts(0xC2 + weighed(CARD, card.is_some()), card, &[], out),

@@ -1,4 +1,5 @@
 pub mod Breaks
+pub mod Comes
 pub mod Cuts
 pub mod Hexes
 pub mod Sealings

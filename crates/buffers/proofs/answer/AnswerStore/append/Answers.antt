@@ -1,26 +1,16 @@
-use Prim.Native.Nat.{_+_, _≤_}
 use native.Mathlib.Omega.{arith}
-use lib.ListN.{length}
 use Rattle.buffers.specs.Rooms.{answerRoom}
-use Rattle.buffers.proofs.Appends.{fits-still, no-other-byte, still-whole, gathered}
+use Rattle.buffers.proofs.Appends.{Appended, appended}
 use Rattle.buffers.proofs.answer.AnswerStore.append.Needs as need
+use Rattle.buffers.proofs.answer.AnswerStore.append.Needs.{After-copy}
+
+told : (c : After-copy) → Appended answerRoom (c .args .self .now .len) (c .args .self .now .bytes) (c .args .more .now) (c .copy .last .part)
+told c =
+    let s = c .args .self .now in
+    appended answerRoom (s .len) (s .bytes) (c .args .more .now) (c .copy .last .part) (s .whole) (s .within) (omega arith) (c .copy .ensures)
 
 pub ghost-self : need.ghost-self
-ghost-self c =
-    let s = c .args .self .now in
-    let more = c .args .more .now in
-    let within : s .len + length more ≤ answerRoom = omega (arith, s .within) in (
-      within,
-      (still-whole answerRoom (s .len) (s .bytes) more (c .copy .last .part) (s .whole) (s .within) (omega arith) (c .copy .ensures), tt),
-    )
+ghost-self c = let a = told (need.at·ghost-self c .After-copy) in (a .within, (a .whole, tt))
 
 pub returns : need.returns
-returns c =
-    let s = c .args .self .now in
-    let more = c .args .more .now in
-    let part = c .copy .last .part in
-    record {
-      value = fits-still answerRoom (s .len) (s .bytes) more part (s .whole) (s .within) (omega arith);
-      gathers = gathered answerRoom (s .len) (s .bytes) more part (s .whole) (s .within) (omega arith) (c .copy .ensures);
-      bytes = no-other-byte answerRoom (s .len) (s .bytes) more part (s .whole) (s .within) (omega arith) (c .copy .ensures);
-    }
+returns c = let a = told (need.at·returns c .After-copy) in record { value = a .value; gathers = a .gathers; bytes = a .others }
