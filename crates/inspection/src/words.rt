@@ -6,6 +6,7 @@ ghost use Rattle.frames.specs.Views.{agreement};
 ghost use Rattle.inspection.specs.WordViews.{cutSeen};
 ghost use Rattle.inspection.specs.Words.{cutOf, digitOn, numberIn, limitIn, cardIn};
 use frames::Agreed;
+use frames::GREATEST_FRAME;
 
 // Cuts at the first space.
 pub fn cut<'a>(line: &'a [u8]) -> Option<(&'a [u8], &'a [u8])>
@@ -40,7 +41,7 @@ pub fn limit_in(field: &[u8]) -> Option<usize>
     ensures { λ r. ⌜ r ≡ limitIn (now (field .entry)) ⌝ }
 {
     match number_in(field)? {
-        n @ (16 | 24 | 32 | 40 | 48 | 64 | 96 | 128 | 256) => Some(n),
+        n @ (16 | 24 | 32 | 40 | 48 | 64 | 96 | 128 | GREATEST_FRAME) => Some(n),
         _ => None,
     }
 }
