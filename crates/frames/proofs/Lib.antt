@@ -11,3 +11,4 @@ pub mod Placing
 pub mod Sealed
 pub mod Shifts
 pub mod Writable
+pub mod Workings

@@ -5,6 +5,7 @@ use native.Mathlib.Omega.{arith}
 use Rattle.activation.proofs.Waiting15.{waiting-15-fails}
 use Rattle.frames.proofs.BlockLaws.{reads-its-frame}
 use Rattle.frames.proofs.FrameLaws.{two-more-law}
+use Rattle.frames.proofs.Workings.{control-bytes}
 use Rattle.frames.specs.Blocks.{R-block, without, bytesOf}
 use Rattle.frames.specs.Reading.{noNumber, Reading}
 use Rattle.protocol.specs.Examples.{Worked, afterSilence, leastLink}
@@ -13,20 +14,7 @@ use Rattle.protocol.specs.Reader.{onReading}
 pub worked : Worked
 worked =
     record {
-      control-bytes =
-          record {
-            I-13 = refl;
-            chaining-13 = refl;
-            number-13 = refl;
-            made-13 = refl;
-            R-B2 = refl;
-            nak-B2 = refl;
-            number-B2 = refl;
-            made-B2 = refl;
-            none-C3 = refl;
-            none-E2 = refl;
-            none-06 = refl;
-          };
+      control-bytes = control-bytes;
       waiting-time = waiting-15-fails;
       one-block = refl;
       two-blocks = refl;
