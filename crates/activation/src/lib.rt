@@ -1,4 +1,6 @@
 // RATS, ATS and PPS: the formats by which a reader wakes a card.
+#![tactic(auto)]
+
 mod answer;
 mod answer_writing;
 mod fault;

@@ -1,4 +1,5 @@
 // Frames of RATS, ATS and PPS as they are on the air.
+#![tactic(auto)]
 
 #[cfg(test)]
 mod tests {

@@ -1,4 +1,6 @@
 // What runs on a card above the protocol: the interface, and two applications.
+#![tactic(auto)]
+
 mod answer;
 mod application;
 mod command;

@@ -1,4 +1,6 @@
 // The applications on tables of commands.
+#![tactic(auto)]
+
 #[cfg(test)]
 mod cases;
 #[cfg(test)]

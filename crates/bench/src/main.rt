@@ -1,4 +1,6 @@
 // Reads a script from standard input, plays it on a reader and a card, and prints a row for each call.
+#![tactic(auto)]
+
 use std::io;
 use std::io::{Read, Write};
 use trial::push_output;

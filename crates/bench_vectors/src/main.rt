@@ -1,4 +1,6 @@
 // Plays many scripts: each on standard input is ended by a line `--`, and so is what is printed for it.
+#![tactic(auto)]
+
 use std::alloc::{AllocError, Global};
 use std::io;
 use std::io::{Read, Write};

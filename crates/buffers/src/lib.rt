@@ -1,4 +1,6 @@
 // Buffers: bytes put into the caller's memory, and stores of a fixed size that gather bytes.
+#![tactic(auto)]
+
 ghost use Rattle.std.specs.Prelude.{◌≡◌, ◌+◌, ◌≤◌, length};
 ghost use Rattle.buffers.specs.Over.{over, over_at};
 

@@ -1,4 +1,6 @@
 // The card on the bench: scenes played frame by frame.
+#![tactic(auto)]
+
 #[cfg(test)]
 mod bench;
 #[cfg(test)]

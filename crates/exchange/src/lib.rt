@@ -1,4 +1,6 @@
 // The reader's exchange: a command sent in parts, and the answer gathered.
+#![tactic(auto)]
+
 mod exchange;
 mod fault;
 mod link;

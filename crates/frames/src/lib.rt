@@ -1,4 +1,6 @@
 // Frames and blocks of ISO/IEC 14443-4, Type A: the check, the control byte, blocks and their frames.
+#![tactic(auto)]
+
 mod block;
 mod check;
 mod control;

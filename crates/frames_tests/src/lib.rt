@@ -1,4 +1,6 @@
 // Frames that others have worked out, run.
+#![tactic(auto)]
+
 #[cfg(test)]
 mod tests {
     use frames::{Agreed, Block, CardNumber, GREATEST_FRAME, read_block, seal, write_block};

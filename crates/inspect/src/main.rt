@@ -1,4 +1,6 @@
 // Reads jobs from standard input, a line each, and prints what was done.
+#![tactic(auto)]
+
 use inspection::push_output;
 use std::io;
 use std::io::{Read, Write};

@@ -1,4 +1,6 @@
 // The jobs of `inspect`, read and answered line by line.
+#![tactic(auto)]
+
 mod answer;
 mod hearing;
 mod job;

@@ -1,4 +1,6 @@
 // A reader and a card over a field that loses and spoils frames.
+#![tactic(auto)]
+
 mod air;
 mod call;
 mod delivery;

@@ -1,6 +1,8 @@
 // The protocol of a reader and a card as a model, and what holds of every run of it. The definitions are in specs/: the
 // ends' settings, the reader, the card, the field and runs, the frames of an exchange, and the agreement. The functions
 // here do nothing: the contract of each is a theorem.
+#![tactic(auto)]
+
 ghost use Rattle.protocol.specs.Agreement.{AgreementHolds};
 ghost use Rattle.protocol.specs.Examples.{Worked};
 ghost use Rattle.protocol.specs.Field.{NoiseIsGarbled};

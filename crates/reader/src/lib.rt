@@ -1,4 +1,6 @@
 // The reader's end of ISO/IEC 14443-4: a session at any stage, and the stages' own types.
+#![tactic(auto)]
+
 mod session;
 
 pub use session::Session;

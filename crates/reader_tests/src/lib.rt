@@ -1,4 +1,6 @@
 // Sessions played frame by frame: the standard's scenarios, refusals, and what is told at the end.
+#![tactic(auto)]
+
 #[cfg(test)]
 mod playing;
 #[cfg(test)]

@@ -1,4 +1,6 @@
 // Sealing and reading for rigs in C. include/hurimpas.h says what a caller owes.
+#![tactic(auto)]
+
 mod calls;
 mod report;
 

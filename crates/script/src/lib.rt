@@ -1,4 +1,6 @@
 // Scripts for the bench: which line is readable and as what, and what each call prints.
+#![tactic(auto)]
+
 mod call;
 mod call_reading;
 mod row;

@@ -1,4 +1,6 @@
 // The stages of a reader's session by ISO/IEC 14443-4, each a type with just the calls that belong to it.
+#![tactic(auto)]
+
 mod next;
 mod outcome;
 mod requests;

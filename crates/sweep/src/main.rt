@@ -1,4 +1,6 @@
 // Reads a set-up and a command from standard input, and prints how the exchange ends under every short run of losses.
+#![tactic(auto)]
+
 use std::io;
 use std::io::{Read, Write};
 use sweeping::{Reading, Sweep, read_order};

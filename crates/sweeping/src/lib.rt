@@ -1,4 +1,6 @@
 // One exchange under every short run of losses, and the table of how each ended.
+#![tactic(auto)]
+
 mod laws;
 mod order;
 mod place;

@@ -1,4 +1,6 @@
 // Text, as the programs read and print it: lines, fields, numbers, and bytes as hexadecimal digits.
+#![tactic(auto)]
+
 mod hex;
 mod laws;
 mod lines;

@@ -1,4 +1,6 @@
 // Scripts for the bench, played on a pair.
+#![tactic(auto)]
+
 mod bench;
 mod calls;
 mod entry;

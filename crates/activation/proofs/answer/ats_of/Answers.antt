@@ -7,5 +7,5 @@ pub returns-in-len1-up : goal.returns-in-len1-up
 returns-in-len1-up c =
     let body = c.args.body.now in
     let fsd = c.args.fsd in
-    let e = c.format-of.ensures ∙ behind-tl fsd body (sym c.if-length-byte-good.ensures) in
-    record { read = e; valid = valid_seen fsd body c.format-of.result (λ k. (c.type-inv.body k).fits) e }
+    let e = c.format_of.ensures ∙ behind-tl fsd body (sym c.if-length_byte_good.ensures) in
+    record { read = e; valid = valid_seen fsd body c.format_of.result (λ k. (c.type-inv.body k).fits) e }

@@ -5,5 +5,5 @@ use Rattle.activation.proofs.answer.format_of.Goals as goal
 pub returns : goal.returns
 returns c =
     let some : 0 < length c.args.format.now = search rules in
-    c.interface-bytes.ensures
-    ∙ behind-t0 c.args.format.now some (sym c.if-not-t0-good.ensures) (omega arith)
+    c.interface_bytes.ensures
+    ∙ behind-t0 c.args.format.now some (sym c.if-not-t0_good.ensures) (omega arith)

@@ -14,6 +14,6 @@ returns c =
       value = omega arith;
       bytes =
           c.put-2.ensures
-          ∙ ap (λ l. over_at 5 historical l) (c.put.ensures ∙ ap (λ l. over_at 0 l old) c.head-of.ensures ∙ over_first head old)
+          ∙ ap (λ l. over_at 5 historical l) (c.put.ensures ∙ ap (λ l. over_at 0 l old) c.head_of.ensures ∙ over_first head old)
           ∙ over_more head historical old 5 refl;
     }

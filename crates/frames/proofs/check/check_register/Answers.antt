@@ -10,7 +10,7 @@ loop-byte-init c = refl
 pub loop-byte-preserved : goal.loop-byte-preserved
 unfolding register_from
 loop-byte-preserved c =
-    ap (λ r. register_from r (drop (c.loop-byte.byte-index + 1) c.args.bytes.now)) c.taken-in-r.ensures
+    ap (λ r. register_from r (drop (c.loop-byte.byte-index + 1) c.args.bytes.now)) c.taken_in-r.ensures
     ∙ sym (at_drop_more (register_from c.loop-byte.r) c.args.bytes.now c.loop-byte.byte-index 0 c.loop-byte-test.true)
     ∙ c.loop-byte.invariant
 

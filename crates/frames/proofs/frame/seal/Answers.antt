@@ -8,7 +8,7 @@ pub returns : goal.returns
 returns c =
     let body = c.args.body.now in
     let old = c.args.out.now in
-    let some : 0 < length body = omega (arith, false-eqb _ 0 c.if-is-empty.ensures) in
+    let some : 0 < length body = omega (arith, false-eqb _ 0 c.if-is_empty.ensures) in
     record {
       value =
           ap {B = Result ℕ Refusal} Ok (sym (two_more body))

@@ -6,26 +6,26 @@ use Rattle.frames.specs.Views.{agreement, Placed}
 use Rattle.frames.proofs.Opening.{opened_front, read_by}
 use Rattle.frames.proofs.reading.read_block.Goals as goal
 
-pub returns-in-err-body : goal.returns-in-err-body
-returns-in-err-body c =
-    let p = err_from_is_err_and c.from-residual.result c.from-residual.ensures.1 in
+pub returns-in_err-body : goal.returns-in_err-body
+returns-in_err-body c =
+    let p = err_from_is_err_and c.from_residual.result c.from_residual.ensures.1 in
     rw (p.1, p.2)
     (record {
       value =
           read_by c.args.limit (agreement c.args.agreed) c.args.frame.now
-          (unopened (frame_cause c.in-err-body.field-0.0)) c.in-err-body.ensures;
+          (unopened (frame_cause c.in_err-body.field-0.0)) c.in_err-body.ensures;
       placed = tt;
     })
 
 pub returns : goal.returns
 returns c =
-    let is = c.in-ok-body.ensures in
-    let body = c.in-ok-body.body.now in
+    let is = c.in_ok-body.ensures in
+    let body = c.in_ok-body.body.now in
     record {
       value =
-          c.read-body.ensures.value
+          c.read_body.ensures.value
           ∙ read_by c.args.limit (agreement c.args.agreed) c.args.frame.now (opened body) is;
       placed =
-          subst (λ l. Placed 1 l c.read-body.result)
-          (opened_front c.args.limit c.args.frame.now body is) c.read-body.ensures.placed;
+          subst (λ l. Placed 1 l c.read_body.result)
+          (opened_front c.args.limit c.args.frame.now body is) c.read_body.ensures.placed;
     }

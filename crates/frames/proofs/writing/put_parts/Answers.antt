@@ -10,8 +10,8 @@ returns c =
     let head : List ℕ = c.args.control ∷ cid_bytes (cid_seen c.args.card) in
     let information = c.args.information.now in
     record {
-      value = ap (λ n. n + length information) c.put-head-n.ensures.value ∙ sym (length-append head information);
+      value = ap (λ n. n + length information) c.put_head-n.ensures.value ∙ sym (length-append head information);
       bytes =
-          c.put.ensures ∙ ap (λ l. over_at c.put-head-n.result information l) c.put-head-n.ensures.bytes
-          ∙ over_more head information c.args.out.now c.put-head-n.result c.put-head-n.ensures.value;
+          c.put.ensures ∙ ap (λ l. over_at c.put_head-n.result information l) c.put_head-n.ensures.bytes
+          ∙ over_more head information c.args.out.now c.put_head-n.result c.put_head-n.ensures.value;
     }

@@ -12,9 +12,9 @@ returns c =
     let old = c.args.out.now in
     record {
       value =
-          ap {B = Result ℕ Refusal} Ok (ap (λ n. n + 2) c.put-block-n.ensures.value ∙ sym (two_more (bytes_of block)))
-          ∙ sym (writing_goes block (length old) (sym c.if-not-in-range.ensures) (omega arith) (sym c.if-not-is-sendable.ensures));
+          ap {B = Result ℕ Refusal} Ok (ap (λ n. n + 2) c.put_block-n.ensures.value ∙ sym (two_more (bytes_of block)))
+          ∙ sym (writing_goes block (length old) (sym c.if-not-in_range.ensures) (omega arith) (sym c.if-not-is_sendable.ensures));
       bytes =
           c.close.ensures
-          ∙ closed (bytes_of block) old c.put-block-n.new.out c.put-block-n.result c.put-block-n.ensures.bytes c.put-block-n.ensures.value;
+          ∙ closed (bytes_of block) old c.put_block-n.new.out c.put_block-n.result c.put_block-n.ensures.bytes c.put_block-n.ensures.value;
     }

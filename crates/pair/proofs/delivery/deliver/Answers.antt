@@ -4,8 +4,8 @@ use Rattle.pair.specs.Fronts.{front_of, fits}
 use Rattle.pair.proofs.Delivered.{front_replied, fits-replied, len_heard, given_heard, never_refused, card_heard_lem, state_heard_lem, buffer_heard_lem}
 use Rattle.pair.proofs.delivery.deliver.Goals as goal
 
-pub invariant-of-air : goal.invariant-of-air
-invariant-of-air g c =
+pub invariant_of-air : goal.invariant_of-air
+invariant_of-air g c =
     let m = move_at g.A.Application.model c.args.card.now c.args.frame.now in
     let room : ℕ = length c.args.air.now.bytes in
     let full : room ≡ 256 = c.args.air.now.full in

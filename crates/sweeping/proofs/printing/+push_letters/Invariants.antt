@@ -1,4 +1,4 @@
 use Rattle.sweeping.proofs.printing.+push_letters.Given as goal
 
-abbrev pub decreases-push-letters : goal.decreases-push-letters
-decreases-push-letters l = l.count
+abbrev pub decreases-push_letters : goal.decreases-push_letters
+decreases-push_letters l = l.count

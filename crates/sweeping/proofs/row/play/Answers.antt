@@ -14,9 +14,9 @@ returns-in-Ok g c =
     let v = values_seen c.args.values in
     let met = c.in-Ok.ensures in
     let ranges : both (reader_in_range (reader_for v)) (card_in_range (card_for v)) ≡ true =
-    sym (ap₂ both (ap reader_in_range c.reader-settings.ensures) c.card-settings.ensures.good) ∙ met.0 in
-    c.play-out.ensures
-    ∙ (λ i. row_played ((met.1 ∙ (λ j. record { reader = c.reader-settings.ensures j; card = c.card-settings.ensures.set j; app = app })) i) (met.2 i) c.args.command.now c.args.plan)
+    sym (ap₂ both (ap reader_in_range c.reader_settings.ensures) c.card_settings.ensures.good) ∙ met.0 in
+    c.play_out.ensures
+    ∙ (λ i. row_played ((met.1 ∙ (λ j. record { reader = c.reader_settings.ensures j; card = c.card_settings.ensures.set j; app = app })) i) (met.2 i) c.args.command.now c.args.plan)
     ∙ sym (ap (λ b. cond b (row_played (record { reader = reader_for v; card = card_for v; app = app }) (outset c.args.application) c.args.command.now c.args.plan) unplayed) ranges)
 
 pub returns : goal.returns
@@ -26,6 +26,6 @@ returns g c =
     let v = values_seen c.args.values in
     let met = c.in-Err.ensures in
     let ranges : both (reader_in_range (reader_for v)) (card_in_range (card_for v)) ≡ false =
-    sym (ap₂ both (ap reader_in_range c.reader-settings.ensures) c.card-settings.ensures.good) ∙ met.0 in
+    sym (ap₂ both (ap reader_in_range c.reader_settings.ensures) c.card_settings.ensures.good) ∙ met.0 in
     c.unplayed.ensures
     ∙ sym (ap (λ b. cond b (row_played (record { reader = reader_for v; card = card_for v; app = app }) (outset c.args.application) c.args.command.now c.args.plan) unplayed) ranges)

@@ -7,10 +7,10 @@ use Rattle.text.proofs.hex.push_hex.Goals as goal
 pub loop-b-preserved : goal.loop-b-preserved
 loop-b-preserved c =
     let bytes = c.args.bytes.now in
-    let high = c.upper-digit-high in
-    let low = c.upper-digit-low in
-    let one = pushed (high.result ∷ []) refl c.in-ok-push.was c.push.ensures.items in
-    let two = pushed (low.result ∷ []) one c.in-ok-push-2.was c.push-in-loop-b.ensures.items in
+    let high = c.upper_digit-high in
+    let low = c.upper_digit-low in
+    let one = pushed (high.result ∷ []) refl c.in_ok-push.was c.push.ensures.items in
+    let two = pushed (low.result ∷ []) one c.in_ok-push-2.was c.push-in-loop-b.ensures.items in
     print_on bytes (vec_items c.loop-b.out) (vec_items c.push-in-loop-b.new.self) (vec_items c.args.out.now ++ hex bytes)
     c.loop-b.b-index high.result low.result (omega arith) high.ensures low.ensures two c.loop-b.invariant
 

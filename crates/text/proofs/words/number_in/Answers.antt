@@ -17,7 +17,7 @@ above : (c : ℕ) → 48 ≤ c → 57 < c → among 48 57 c ≡ false
 above c low h = ap₂ both (le-leb 48 c low) (lt-leb c 57 h)
 
 pub loop-c-init : goal.loop-c-init
-loop-c-init c = (number_start c.args.field.now (false-eqb _ 0 c.if-is-empty.ensures), omega arith)
+loop-c-init c = (number_start c.args.field.now (false-eqb _ 0 c.if-is_empty.ensures), omega arith)
 
 pub loop-c-preserved : goal.loop-c-preserved
 loop-c-preserved c =

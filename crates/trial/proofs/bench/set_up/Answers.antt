@@ -10,10 +10,10 @@ use Rattle.trial.proofs.bench.set_up.Goals as goal
 pub returns : goal.returns
 returns g c =
     let app = g.A.Application.model in
-    let met = c.in-ok-pair.ensures in
-    let reader = c.reader-settings.ensures in
-    let card = c.card-settings.ensures in
-    let setup : setup_seen app c.in-ok-pair.pair ≡ bench_for app (values_seen c.args.values) = met.1 ∙ (λ i. record { reader = reader i; card = card.set i; app = app }) in (
+    let met = c.in_ok-pair.ensures in
+    let reader = c.reader_settings.ensures in
+    let card = c.card_settings.ensures in
+    let setup : setup_seen app c.in_ok-pair.pair ≡ bench_for app (values_seen c.args.values) = met.1 ∙ (λ i. record { reader = reader i; card = card.set i; app = app }) in (
       sym (ap₂ (λ s b. both (reader_in_range s) b) reader card.good) ∙ met.0,
       c.wake.ensures.setup ∙ setup,
       c.wake.ensures.world ∙ ap₂ (λ u w. ran u room w waking) setup met.2,

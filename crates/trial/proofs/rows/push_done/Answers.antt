@@ -24,19 +24,19 @@ returns-in-Fetched g c =
     record {
       setup = c.call.ensures.crossed.setup;
       world = world_acted app c.fetch.result Whole fetch whole before c.call.new.self c.call.result _ new c.call.ensures c.fetch.ensures refl refl ∙ fetch_stays (setup_seen app before) (world_seen before) whole;
-      row = IfOk-weaker c.push-row.result _ _ (λ _ e. e ∙ (λ i. vec_items c.args.out.now ++ row_text c.args.word.now 100 [] (copies i) (c.says-says.ensures i))) c.push-row.ensures;
+      row = IfOk-weaker c.push_row.result _ _ (λ _ e. e ∙ (λ i. vec_items c.args.out.now ++ row_text c.args.word.now 100 [] (copies i) (c.says-says.ensures i))) c.push_row.ensures;
     }
 
-pub returns-in-default : goal.returns-in-default
-returns-in-default g c =
+pub returns-in_default : goal.returns-in_default
+returns-in_default g c =
     let app = g.A.Application.model in
     let before = c.args.pair.now in
     let new = c.call.new.out in
     let told = answer_acted app c.fetch.result Whole fetch whole before c.call.new.self c.call.result _ new c.call.ensures c.fetch.ensures refl refl in
     let copies : [] ≡ fetched_from (setup_seen app before) (world_seen before) =
-    sym (none_copied c.call.result.outcome new c.in-default.not-Fetched) ∙ ap copied told in
+    sym (none_copied c.call.result.outcome new c.in_default.not-Fetched) ∙ ap copied told in
     record {
       setup = c.call.ensures.crossed.setup;
       world = world_acted app c.fetch.result Whole fetch whole before c.call.new.self c.call.result _ new c.call.ensures c.fetch.ensures refl refl ∙ fetch_stays (setup_seen app before) (world_seen before) whole;
-      row = IfOk-weaker c.push-row-in-default.result _ _ (λ _ e. e ∙ (λ i. vec_items c.args.out.now ++ row_text c.args.word.now 100 [] (copies i) (c.says-says.ensures i))) c.push-row-in-default.ensures;
+      row = IfOk-weaker c.push_row-in_default.result _ _ (λ _ e. e ∙ (λ i. vec_items c.args.out.now ++ row_text c.args.word.now 100 [] (copies i) (c.says-says.ensures i))) c.push_row-in_default.ensures;
     }

@@ -12,12 +12,12 @@ returns-in-Wrote g c =
     let k = c.call-answer in
     record {
       setup = k.ensures.crossed.setup;
-      world = moved app e c.call-of.result c.going-of.result before k.new.self k.result _ k.new.out k.ensures c.call-of.ensures c.going-of.ensures refl;
+      world = moved app e c.call_of.result c.going_of.result before k.new.self k.result _ k.new.out k.ensures c.call_of.ensures c.going_of.ensures refl;
       row =
-          IfOk-weaker c.push-row.result _ _
-          (λ _ x. row_wrote app e c.call-of.result c.going-of.result before k.new.self k.result _ k.new.out k.ensures c.call-of.ensures c.going-of.ensures refl
-          c.entry-word-word.result.now (vec_items c.args.out.now) (vec_items c.push-row.new.out) c.entry-word-word.ensures c.in-Wrote.sent c.without-check.result.now c.says.result c.in-Wrote.is c.without-check.ensures c.says.ensures x)
-          c.push-row.ensures;
+          IfOk-weaker c.push_row.result _ _
+          (λ _ x. row_wrote app e c.call_of.result c.going_of.result before k.new.self k.result _ k.new.out k.ensures c.call_of.ensures c.going_of.ensures refl
+          c.entry_word-word.result.now (vec_items c.args.out.now) (vec_items c.push_row.new.out) c.entry_word-word.ensures c.in-Wrote.sent c.without_check.result.now c.says.result c.in-Wrote.is c.without_check.ensures c.says.ensures x)
+          c.push_row.ensures;
     }
 
 pub returns-in-Answered : goal.returns-in-Answered
@@ -27,27 +27,27 @@ returns-in-Answered g c =
     let before = c.args.pair.now in
     let k = c.call-answer in
     record {
-      setup = c.push-done.ensures.setup ∙ k.ensures.crossed.setup;
-      world = c.push-done.ensures.world ∙ moved app e c.call-of.result c.going-of.result before k.new.self k.result _ k.new.out k.ensures c.call-of.ensures c.going-of.ensures refl;
+      setup = c.push_done.ensures.setup ∙ k.ensures.crossed.setup;
+      world = c.push_done.ensures.world ∙ moved app e c.call_of.result c.going_of.result before k.new.self k.result _ k.new.out k.ensures c.call_of.ensures c.going_of.ensures refl;
       row =
-          IfOk-weaker c.push-done.result _ _
-          (λ _ x. row_done app e c.call-of.result c.going-of.result before k.new.self k.result _ k.new.out k.ensures c.call-of.ensures c.going-of.ensures refl
-          c.entry-word-word.result.now (vec_items c.args.out.now) (vec_items c.push-done.new.out) c.entry-word-word.ensures c.push-done.new.pair c.in-Answered.len c.in-Answered.report c.in-Answered.is x)
-          c.push-done.ensures.row;
+          IfOk-weaker c.push_done.result _ _
+          (λ _ x. row_done app e c.call_of.result c.going_of.result before k.new.self k.result _ k.new.out k.ensures c.call_of.ensures c.going_of.ensures refl
+          c.entry_word-word.result.now (vec_items c.args.out.now) (vec_items c.push_done.new.out) c.entry_word-word.ensures c.push_done.new.pair c.in-Answered.len c.in-Answered.report c.in-Answered.is x)
+          c.push_done.ensures.row;
     }
 
-pub returns-in-default : goal.returns-in-default
-returns-in-default g c =
+pub returns-in_default : goal.returns-in_default
+returns-in_default g c =
     let app = g.A.Application.model in
     let e = entry_seen c.args.entry.now in
     let before = c.args.pair.now in
     let k = c.call-answer in
     record {
       setup = k.ensures.crossed.setup;
-      world = moved app e c.call-of.result c.going-of.result before k.new.self k.result _ k.new.out k.ensures c.call-of.ensures c.going-of.ensures refl;
+      world = moved app e c.call_of.result c.going_of.result before k.new.self k.result _ k.new.out k.ensures c.call_of.ensures c.going_of.ensures refl;
       row =
-          IfOk-weaker c.push-row-in-default.result _ _
-          (λ _ x. row_plain app e c.call-of.result c.going-of.result before k.new.self k.result _ k.new.out k.ensures c.call-of.ensures c.going-of.ensures refl
-          c.entry-word-word.result.now (vec_items c.args.out.now) (vec_items c.push-row-in-default.new.out) c.entry-word-word.ensures k.result.outcome c.number.result c.says-in-default.result refl c.in-default.not-Wrote c.in-default.not-Answered c.number.ensures c.says-in-default.ensures x)
-          c.push-row-in-default.ensures;
+          IfOk-weaker c.push_row-in_default.result _ _
+          (λ _ x. row_plain app e c.call_of.result c.going_of.result before k.new.self k.result _ k.new.out k.ensures c.call_of.ensures c.going_of.ensures refl
+          c.entry_word-word.result.now (vec_items c.args.out.now) (vec_items c.push_row-in_default.new.out) c.entry_word-word.ensures k.result.outcome c.number.result c.says-in_default.result refl c.in_default.not-Wrote c.in_default.not-Answered c.number.ensures c.says-in_default.ensures x)
+          c.push_row-in_default.ensures;
     }

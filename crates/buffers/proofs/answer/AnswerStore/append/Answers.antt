@@ -9,8 +9,8 @@ told c =
     let s = c.args.self.now in
     appended answer_room s.len s.bytes c.args.more.now c.copy.new.part s.whole s.within (omega arith) c.copy.ensures
 
-pub invariant-of-self : goal.invariant-of-self
-invariant-of-self c = let a = told (goal.at.invariant-of-self c).After-copy in (a.within, (a.whole, tt))
+pub invariant_of-self : goal.invariant_of-self
+invariant_of-self c = let a = told (goal.at.invariant_of-self c).After-copy in record { within = a.within; whole = a.whole }
 
 pub returns : goal.returns
 returns c = let a = told (goal.at.returns c).After-copy in record { value = a.value; gathers = a.gathers; bytes = a.others }

@@ -14,8 +14,8 @@ returns-then-not-append g c =
     let info = c.args.information.now in
     let after = command_held c.append.new.self in
     let told = c.append.ensures in
-    step_told_lem c.stay-quiet.new.self c.stay-quiet.result s c.alone.result c.alone.ensures.speaks c.alone.ensures.given
-    ∙ ap (λ m. told_of (lifted s m)) c.stay-quiet.ensures
+    step_told_lem c.stay_quiet.new.self c.stay_quiet.result s c.alone.result c.alone.ensures.speaks c.alone.ensures.given
+    ∙ ap (λ m. told_of (lifted s m)) c.stay_quiet.ensures
     ∙ ap (λ m. told_of m) (ignored g.A.Application.model w s c.args.chaining (cid_seen c.args.card) info after (kept c.append.result after w.gathered info told.gathers c.if-not-append.true) (sym told.value ∙ c.if-not-append.true))
 
 pub give-requires : goal.give-requires

@@ -36,10 +36,10 @@ returns-in-Ok g c =
     let block = on_reading model w s (read_frame limit (card_agreed set w.cid) f) in
     record {
       told =
-          c.take-block.ensures.told set
-          ∙ ap (λ r. told_of (on_reading model w s r)) (c.in-Ok.ensures.value ∙ (λ i. read_frame (c.frame-size.ensures i) (c.agreed.ensures i) f))
-          ∙ ap (λ m. told_of m) (unchosen set w s block (pps_in set w (open_frame limit f)) c.in-default.ensures);
-      fit = c.take-block.ensures.fit;
+          c.take_block.ensures.told set
+          ∙ ap (λ r. told_of (on_reading model w s r)) (c.in-Ok.ensures.value ∙ (λ i. read_frame (c.frame_size.ensures i) (c.agreed.ensures i) f))
+          ∙ ap (λ m. told_of m) (unchosen set w s block (pps_in set w (open_frame limit f)) c.in_default.ensures);
+      fit = c.take_block.ensures.fit;
     }
 
 pub returns-in-Err : goal.returns-in-Err
@@ -51,15 +51,15 @@ returns-in-Err g c =
     let limit = size_of set.fsci in
     let model = g.A.Application.model in
     let block = on_reading model w s (read_frame limit (card_agreed set w.cid) f) in
-    let after = c.stay-quiet.new.self in
+    let after = c.stay_quiet.new.self in
     let step = c.alone.result in
     let t = c.of.result in
     record {
       told =
           taken_told set after s t step c.of.ensures.sends c.of.ensures.given
-          ∙ step_told_lem after c.stay-quiet.result s step c.alone.ensures.speaks c.alone.ensures.given
-          ∙ ap (λ m. told_of (lifted s m)) c.stay-quiet.ensures
-          ∙ ap (λ r. told_of (on_reading model w s r)) (c.in-Err.ensures.value ∙ (λ i. read_frame (c.frame-size.ensures i) (c.agreed.ensures i) f))
-          ∙ ap (λ m. told_of m) (unchosen set w s block (pps_in set w (open_frame limit f)) c.in-default.ensures);
+          ∙ step_told_lem after c.stay_quiet.result s step c.alone.ensures.speaks c.alone.ensures.given
+          ∙ ap (λ m. told_of (lifted s m)) c.stay_quiet.ensures
+          ∙ ap (λ r. told_of (on_reading model w s r)) (c.in-Err.ensures.value ∙ (λ i. read_frame (c.frame_size.ensures i) (c.agreed.ensures i) f))
+          ∙ ap (λ m. told_of m) (unchosen set w s block (pps_in set w (open_frame limit f)) c.in_default.ensures);
       fit = taken_fit t step c.of.ensures.sends;
     }

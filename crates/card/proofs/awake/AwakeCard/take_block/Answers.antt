@@ -11,7 +11,7 @@ pub returns-in-I : goal.returns-in-I
 returns-in-I g c =
     let w = awake_of c.args.self.now in
     let s = c.args.application.now in
-    let step = c.take-information in
+    let step = c.take_information in
     let t = c.of.result in
     record {
       told =
@@ -26,15 +26,15 @@ pub returns-in-R : goal.returns-in-R
 returns-in-R g c =
     let w = awake_of c.args.self.now in
     let s = c.args.application.now in
-    let after = c.take-r-speaks.new.self in
+    let after = c.take_r-speaks.new.self in
     let step = c.alone.result in
     let t = c.of-in-R.result in
     record {
       told =
           λ set.
           taken_told set after s t step c.of-in-R.ensures.sends c.of-in-R.ensures.given
-          ∙ step_told_lem after c.take-r-speaks.result s step c.alone.ensures.speaks c.alone.ensures.given
-          ∙ ap (λ m. told_of (lifted s m)) c.take-r-speaks.ensures
+          ∙ step_told_lem after c.take_r-speaks.result s step c.alone.ensures.speaks c.alone.ensures.given
+          ∙ ap (λ m. told_of (lifted s m)) c.take_r-speaks.ensures
           ∙ ap (λ m. told_of m) (sym (lift_r s w c.in-R.nak (same c.in-R.number w.number) (cid_seen c.in-R.card)))
           ∙ ap (λ b. told_of (on_block g.A.Application.model w s (block_seen b))) (sym c.in-R.is);
       fit = taken_fit t step c.of-in-R.ensures.sends;

@@ -18,15 +18,15 @@ after g c =
 pub take-taken-requires : goal.take-taken-requires
 take-taken-requires g c = card_of_lem (card_of c.args.self.now.state) c.args.self.now.fit
 
-pub invariant-of-self : goal.invariant-of-self
-invariant-of-self g c =
-    (c.args.self.now.range, (card_in_lem (card_of c.take-taken.new.self) (after g (goal.at.invariant-of-self g c).After-take-taken), tt))
+pub invariant_of-self : goal.invariant_of-self
+invariant_of-self g c =
+    (c.args.self.now.range, (card_in_lem (card_of c.take-taken.new.self) (after g (goal.at.invariant_of-self g c).After-take-taken), tt))
 
-pub write-reply-len-requires : goal.write-reply-len-requires
-write-reply-len-requires g c =
+pub write_reply-len-requires : goal.write_reply-len-requires
+write_reply-len-requires g c =
     record {
       range = c.args.self.now.range;
-      fit = after g (goal.at.write-reply-len-requires g c).After-take-taken;
+      fit = after g (goal.at.write_reply-len-requires g c).After-take-taken;
       sends = c.take-taken.ensures.fit;
       room = omega arith;
     }

@@ -17,7 +17,7 @@ returns c =
     let a : Ats = ats s.fsci s.ta s.fwi s.sfgi c.tc.result (take (s.historical_len - 0) s.historical) in
     let is : a ≡ ats_for set = λ i. ats s.fsci s.ta s.fwi s.sfgi (c.tc.ensures i) (take (n i) s.historical) in
     let range = (both_true (leb s.historical_len 9) _ c.requires.range).1 in
-    let goes = c.write-ats.ensures.value ∙ ats_goes set a (length old) is range c.requires.room in
-    let bytes = c.write-ats.ensures.bytes ∙ ap (λ x. written c.write-ats.result (ats_frame x) old) is in
-    let w = wrote c.write-ats.result c.ok.result (ats_frame (ats_for set)) old c.write-ats.new.out goes c.ok.ensures.value bytes in
+    let goes = c.write_ats.ensures.value ∙ ats_goes set a (length old) is range c.requires.room in
+    let bytes = c.write_ats.ensures.bytes ∙ ap (λ x. written c.write_ats.result (ats_frame x) old) is in
+    let w = wrote c.write_ats.result c.ok.result (ats_frame (ats_for set)) old c.write_ats.new.out goes c.ok.ensures.value bytes in
     record { value = w.value; bytes = w.bytes }

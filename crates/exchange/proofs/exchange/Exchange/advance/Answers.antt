@@ -10,8 +10,8 @@ use Rattle.exchange.proofs.Parts.{more_behind, room_some}
 use Rattle.exchange.proofs.Stores.{command_long}
 use Rattle.exchange.proofs.exchange.Exchange.advance.Goals as goal
 
-pub invariant-of-self : goal.invariant-of-self
-invariant-of-self c =
+pub invariant_of-self : goal.invariant_of-self
+invariant_of-self c =
     let x = c.args.self.now in
     let l = command_held x.command in
     let room = room_for x.link in

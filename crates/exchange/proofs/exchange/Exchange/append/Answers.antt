@@ -11,9 +11,9 @@ more c =
     grown c.args.self.now.answer c.append.new.self c.args.information.now c.append.result c.requires.fits
     c.append.ensures.value c.append.ensures.gathers
 
-pub invariant-of-self : goal.invariant-of-self
-invariant-of-self c =
-    let m = more (goal.at.invariant-of-self c).After-append in
+pub invariant_of-self : goal.invariant_of-self
+invariant_of-self c =
+    let m = more (goal.at.invariant_of-self c).After-append in
     let x = c.args.self.now in
     (x.sends, (x.place, (omega arith, (omega arith, (x.waits, tt)))))
 

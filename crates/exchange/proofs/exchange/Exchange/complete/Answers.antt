@@ -14,9 +14,9 @@ more c =
 never : finished ≡ running → ⊥
 never e = let z : ◌≡◌ {A = ℕ} 0 1 = cc in omega arith
 
-pub invariant-of-self : goal.invariant-of-self
-invariant-of-self c =
-    let m = more (goal.at.invariant-of-self c).After-append in
+pub invariant_of-self : goal.invariant_of-self
+invariant_of-self c =
+    let m = more (goal.at.invariant_of-self c).After-append in
     let x = c.args.self.now in
     (λ e. absurd (never e), (x.place, (omega arith, (x.repeats, (x.waits, tt)))))
 

@@ -15,6 +15,6 @@ returns-in-I c =
     let repeats = c.args.limits.repeats in
     let waits = c.args.limits.waits in
     let awaited = both (same c.in-I.number x.number) (not (more x.rest)) in
-    subst (λ m. Does m c.on-information.new.self c.on-information.result c.args.out.now c.on-information.new.out)
+    subst (λ m. Does m c.on_information.new.self c.on_information.result c.args.out.now c.on_information.new.out)
     (no_limit repeats waits l x awaited c.in-I.chaining c.in-I.information.now
-    ∙ sym (ap (λ b. on_block repeats waits l x (block_seen b)) c.in-I.is)) c.on-information.ensures
+    ∙ sym (ap (λ b. on_block repeats waits l x (block_seen b)) c.in-I.is)) c.on_information.ensures

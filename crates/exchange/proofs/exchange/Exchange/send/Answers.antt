@@ -15,14 +15,14 @@ returns c =
     let b = block_seen c.args.block in
     let x = c.args.self.now in
     let old = c.args.out.now in
-    let goes = c.write-block.ensures.value ∙ writing_goes b (length old) c.requires.range c.requires.room c.requires.goes in
+    let goes = c.write_block.ensures.value ∙ writing_goes b (length old) c.requires.range c.requires.room c.requires.goes in
     let long : c.unwrap.result ≡ length (frame_of b) = cc (goes, c.unwrap.ensures) in
-    let put : c.write-block.new.out ≡ over (frame_of b) old =
-    c.write-block.ensures.bytes ∙ ap (λ r. written r (frame_of b) old) goes in
+    let put : c.write_block.new.out ≡ over (frame_of b) old =
+    c.write_block.ensures.bytes ∙ ap (λ r. written r (frame_of b) old) goes in
     let small = ((written_exactly b (length old)).0 (writing_goes b (length old) c.requires.range c.requires.room c.requires.goes)).1 in
     let room = c.requires.room in
     let fits : length (frame_of b) ≤ length old = omega arith in
-    let front = front_of_written c.unwrap.result (frame_of b) old c.write-block.new.out long put in
+    let front = front_of_written c.unwrap.result (frame_of b) old c.write_block.new.out long put in
     record {
       moves = λ i. to busy (link_seen x.link) (exchange_seen x) (wrote (front i) (c.listening.ensures i));
       bytes = put;

@@ -16,7 +16,7 @@ use Rattle.exchange.proofs.exchange.Exchange.send_part.Goals.{After-carrying-blo
 is_part : (c : After-carrying-block) → block_seen c.carrying-block.result ≡ part_block (link_seen c.args.self.now.link) (exchange_seen c.args.self.now)
 is_part c =
     ap block_seen c.carrying-block.ensures
-    ∙ (λ i. i_block (c.has-more.ensures i) c.args.self.now.number (c.card.ensures i) (c.part-part.ensures i))
+    ∙ (λ i. i_block (c.has_more.ensures i) c.args.self.now.number (c.card.ensures i) (c.part-part.ensures i))
 
 pub send-requires : goal.send-requires
 send-requires c =

@@ -3,8 +3,8 @@ use Rattle.activation.specs.Views.{said_by}
 use Rattle.exchange.proofs.Ranges.{size_range, time_range}
 use Rattle.exchange.proofs.link.Link.of.Goals as goal
 
-pub invariant-of-result : goal.invariant-of-result
-invariant-of-result c =
+pub invariant_of-result : goal.invariant_of-result
+invariant_of-result c =
     let size = size_range c.args.ats.fsci c.in-Some.fsc c.in-Some.ensures in
-    let time = time_range (said_by c.args.ats) (sym c.if-not-is-valid.ensures) in
-    (size.0, (size.1, (time, (c.card-for.ensures.range, tt))))
+    let time = time_range (said_by c.args.ats) (sym c.if-not-is_valid.ensures) in
+    (size.0, (size.1, (time, (c.card_for.ensures.range, tt))))

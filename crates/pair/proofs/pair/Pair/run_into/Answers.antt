@@ -16,8 +16,8 @@ loop-step-preserved g c =
     let steps = c.args.steps.now in (
       search rules,
       search rules,
-      goes_a_step g.A.Application.model (map step_seen steps) c.args.self.now steps c.loop-step.step-index _ c.loop-step.self c.of.new.pair _ (vec_items c.loop-step.records) (vec_items c.push-reserved.new.self) c.of.result
-          c.loop-step-test.true c.push-reserved.ensures.items c.loop-step.invariant.2 c.of.ensures,
+      goes_a_step g.A.Application.model (map step_seen steps) c.args.self.now steps c.loop-step.step-index _ c.loop-step.self c.of.new.pair _ (vec_items c.loop-step.records) (vec_items c.push_reserved.new.self) c.of.result
+          c.loop-step-test.true c.push_reserved.ensures.items c.loop-step.invariant.2 c.of.ensures,
     )
 
 pub returns : goal.returns
@@ -26,7 +26,7 @@ returns g c =
     let steps = c.args.steps.now in
     let goes = c.loop-step.invariant.2 in (
       goes.0,
-      goes.1 ∙ ap (λ l. l ++ goes.0) c.in-ok-reserve.ensures.items,
+      goes.1 ∙ ap (λ l. l ++ goes.0) c.in_ok-reserve.ensures.items,
       goes_to_the_end app (map step_seen steps) c.args.self.now c.loop-step.self goes.0
           (subst (λ l. Going app (map step_seen steps) (map step_seen l) c.args.self.now c.loop-step.self goes.0)
           (drop_all c.loop-step.step-index steps c.loop-step-test.false) goes.2),
