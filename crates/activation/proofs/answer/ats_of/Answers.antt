@@ -8,4 +8,4 @@ returns-in-len1-up c =
     let body = c.args.body.now in
     let fsd = c.args.fsd in
     let e = c.format_of.ensures ∙ behind-tl fsd body (sym c.if-length_byte_good.ensures) in
-    record { read = e; valid = valid_seen fsd body c.format_of.result (λ k. (c.type-inv.body k).fits) e }
+    record { read = e; valid = valid_seen fsd body c.format_of.result (λ k. (c.type_inv.body k).fits) e }

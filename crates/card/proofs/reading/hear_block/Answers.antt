@@ -7,5 +7,5 @@ returns c =
     let told = c.read_block.ensures.value in
     record {
       value = told;
-      valid = valid_read c.args.limit (agreement c.args.agreed) c.args.frame.now c.read_block.result (λ k. (c.type-inv.frame k).fits) told;
+      valid = valid_read c.args.limit (agreement c.args.agreed) c.args.frame.now c.read_block.result (λ k. (c.type_inv.frame k).fits) told;
     }

@@ -8,5 +8,5 @@ returns c =
     record {
       value = e;
       valid =
-          valid_seen c.args.fsd (agreement c.args.agreed) c.args.frame.now c.read_block.result (λ k. (c.type-inv.frame k).fits) e;
+          valid_seen c.args.fsd (agreement c.args.agreed) c.args.frame.now c.read_block.result (λ k. (c.type_inv.frame k).fits) e;
     }

@@ -10,7 +10,7 @@ returns-then-frame-n c =
     let n : ℕ = length f - 2 in
     let last : Bool = eqb (get_or f (n + 1) 0) (get_or c.to_le_bytes.result 1 0) in
     ap (λ t. both t last) (sym (eq-eqb _ _ c.if-frame-n.true))
-    ∙ checks_by f n (n - 0) c.check_register.result c.to_le_bytes.result c.requires refl (omega arith) c.check_register.ensures c.check_register.type-inv c.to_le_bytes.ensures
+    ∙ checks_by f n (n - 0) c.check_register.result c.to_le_bytes.result c.requires refl (omega arith) c.check_register.ensures c.check_register.type_inv c.to_le_bytes.ensures
 
 pub returns-else-frame-n : goal.returns-else-frame-n
 returns-else-frame-n c =
@@ -19,4 +19,4 @@ returns-else-frame-n c =
     let bytes : List ℕ = c.to_le_bytes.result in
     let wrong = ne_eqb (get_or f n 0) (get_or bytes 0 0) c.if-frame-n.false in
     wrong ∙ ap (λ t. both t (eqb (get_or f (n + 1) 0) (get_or bytes 1 0))) (sym wrong)
-    ∙ checks_by f n (n - 0) c.check_register.result c.to_le_bytes.result c.requires refl (omega arith) c.check_register.ensures c.check_register.type-inv c.to_le_bytes.ensures
+    ∙ checks_by f n (n - 0) c.check_register.result c.to_le_bytes.result c.requires refl (omega arith) c.check_register.ensures c.check_register.type_inv c.to_le_bytes.ensures

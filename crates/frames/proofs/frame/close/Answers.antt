@@ -13,7 +13,7 @@ returns c =
     let whole : n - 0 ≡ n = omega arith in
     let check : c.to_le_bytes-check.result ≡ check_of (take n old) =
     c.to_le_bytes-check.ensures
-    ∙ check_bytes (take (n - 0) old) c.check_register.result c.check_register.ensures c.check_register.type-inv
+    ∙ check_bytes (take (n - 0) old) c.check_register.result c.check_register.ensures c.check_register.type_inv
     ∙ ap (λ k. check_of (take k old)) whole in
     c.put.ensures ∙ ap (λ l. over_at n l old) check
     ∙ over_behind n (check_of (take n old)) old (let fits : n ≤ length old = omega arith in fits)

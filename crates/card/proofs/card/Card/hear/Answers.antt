@@ -13,7 +13,7 @@ after g c =
     let self = c.args.self.now in
     let card = card_of self.state in
     subst FitCard (sym (ap (λ t. t.card) c.take-taken.ensures.told))
-    (stays_fit g.A.Application.model (settings_of self.settings) card self.application c.args.frame.now g.met.A.Application.keeps (card_of_lem card self.fit) (λ k. (c.type-inv.frame k).fits))
+    (stays_fit g.A.Application.model (settings_of self.settings) card self.application c.args.frame.now g.met.A.Application.keeps (card_of_lem card self.fit) (λ k. (c.type_inv.frame k).fits))
 
 pub take-taken-requires : goal.take-taken-requires
 take-taken-requires g c = card_of_lem (card_of c.args.self.now.state) c.args.self.now.fit
