@@ -16,7 +16,7 @@ returns-in-None c =
 pub loop-i-preserved : goal.loop-i-preserved
 loop-i-preserved c =
     let text = c.args.text.now in
-    let more = pushed (c.in-Some.b ∷ []) refl c.in_ok-push.was c.push.ensures.items in
+    let more = pushed (c.in-Some.b ∷ []) refl c.in_ok-push-in-Some.was c.push.ensures.items in
     subst (λ l. follow l (unhex (drop (c.loop-i.i + 2) text)) ≡ unhex text) (sym more)
     (read_on text (vec_items c.loop-i.bytes) c.loop-i.i c.in-Some.b (unhex text) (omega arith) (sym c.in-Some.ensures) c.loop-i.invariant)
 

@@ -20,7 +20,10 @@ take-taken-requires g c = card_of_lem (card_of c.args.self.now.state) c.args.sel
 
 pub invariant_of-self : goal.invariant_of-self
 invariant_of-self g c =
-    (c.args.self.now.range, (card_in_lem (card_of c.take-taken.new.self) (after g (goal.at.invariant_of-self g c).After-take-taken), tt))
+    record {
+      range = c.args.self.now.range;
+      fit = card_in_lem (card_of c.take-taken.new.self) (after g (goal.at.invariant_of-self g c).After-take-taken);
+    }
 
 pub write_reply-len-requires : goal.write_reply-len-requires
 write_reply-len-requires g c =

@@ -21,7 +21,7 @@ invariant_of-self c =
     let within = x.command.within in
     let is = c.room.ensures in
     let sends : x.from + c.room.result < length l = omega arith in
-    (λ e. sends, (omega arith, (omega arith, (omega arith, (x.waits, tt)))))
+    record { sends = λ e. sends; place = omega arith; fresh = omega arith; repeats = omega arith; waits = x.waits }
 
 pub returns : goal.returns
 returns c =

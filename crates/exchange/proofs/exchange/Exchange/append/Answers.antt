@@ -15,7 +15,7 @@ pub invariant_of-self : goal.invariant_of-self
 invariant_of-self c =
     let m = more (goal.at.invariant_of-self c).After-append in
     let x = c.args.self.now in
-    (x.sends, (x.place, (omega arith, (omega arith, (x.waits, tt)))))
+    record { sends = x.sends; place = x.place; fresh = omega arith; repeats = omega arith; waits = x.waits }
 
 pub returns : goal.returns
 returns c =

@@ -18,7 +18,7 @@ pub invariant_of-self : goal.invariant_of-self
 invariant_of-self c =
     let m = more (goal.at.invariant_of-self c).After-append in
     let x = c.args.self.now in
-    (λ e. absurd (never e), (x.place, (omega arith, (x.repeats, (x.waits, tt)))))
+    record { sends = λ e. absurd (never e); place = x.place; fresh = omega arith; repeats = x.repeats; waits = x.waits }
 
 pub returns : goal.returns
 returns c =

@@ -7,4 +7,4 @@ pub invariant_of-result : goal.invariant_of-result
 invariant_of-result c =
     let size = size_range c.args.ats.fsci c.in-Some.fsc c.in-Some.ensures in
     let time = time_range (said_by c.args.ats) (sym c.if-not-is_valid.ensures) in
-    (size.0, (size.1, (time, (c.card_for.ensures.range, tt))))
+    record { least = size.0; greatest = size.1; time = time; number = c.card_for.ensures.range }
