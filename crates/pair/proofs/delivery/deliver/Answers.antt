@@ -12,7 +12,12 @@ invariant_of-air g c =
     let said = c.in-Ok.ensures in
     let whole : length c.hear.new.out ≡ 256 = search rules in
     let len : c.heard-air.result ≡ cond c.args.audible _ None = c.heard-air.ensures ∙ ap (λ o. cond c.args.audible o None) (len_heard m room full c.in-Ok.response said.value) in
-    (whole, (ap fits len ∙ fits-replied m.answer c.args.audible c.args.air.now.bytes c.hear.new.out (said.bytes ∙ buffer_heard_lem m room full c.args.air.now.bytes) whole, tt))
+    record {
+      full = whole;
+      within =
+          ap fits len
+          ∙ fits-replied m.answer c.args.audible c.args.air.now.bytes c.hear.new.out (said.bytes ∙ buffer_heard_lem m room full c.args.air.now.bytes) whole;
+    }
 
 pub returns-in-Ok : goal.returns-in-Ok
 returns-in-Ok g c =

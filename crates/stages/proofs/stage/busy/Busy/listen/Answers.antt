@@ -13,4 +13,4 @@ invariant_of-result c =
     let before = c.args.self.exchange in
     let after = c.hear.new.self in
     let same = refusal_keeps c.limits.result (refusal_number c.in-Refused.why) (link_seen before.link) (link_seen after.link) (exchange_seen before) (exchange_seen after) (event_seen c.args.bytes) (length c.args.out.now) c.in-Refused.ensures.moves in
-    (ap (λ (x : Exchange). is_running x.progress) same ∙ c.args.self.runs, tt)
+    record { runs = ap (λ (x : Exchange). is_running x.progress) same ∙ c.args.self.runs }
