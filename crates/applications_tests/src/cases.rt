@@ -21,13 +21,13 @@ pub(crate) fn check_answer<A: Application>(
     let mut buffer = [UNTOUCHED; LONGEST_ANSWER];
     let reply = app.respond(command, &mut buffer);
     let len = reply.len;
-    assert_eq!(rt; reply.waits, waits);
-    assert_eq!(rt; reply.multiplier, multiplier);
-    assert!(rt; len <= LONGEST_ANSWER);
+    assert_eq!(rt; reply.waits, waits, "command {command:?}");
+    assert_eq!(rt; reply.multiplier, multiplier, "command {command:?}");
+    assert!(rt; len <= LONGEST_ANSWER, "command {command:?}");
     let (front, rest) = buffer.split_at(len);
-    assert_eq!(rt; front, answer);
+    assert_eq!(rt; front, answer, "command {command:?}");
     for byte in rest {
-        assert_eq!(rt; *byte, UNTOUCHED);
+        assert_eq!(rt; *byte, UNTOUCHED, "command {command:?}");
     }
     Ok(())
 }
@@ -41,10 +41,7 @@ pub(crate) fn check_table<A: Application>(
     multiplier: u8,
 ) -> Result<(), Fail> {
     for case in table {
-        let command = case.0;
-        check_answer(rt, app, command, case.1, waits, multiplier).note(format_args!(
-            "command {command:?}"
-        ))?;
+        check_answer(rt, app, case.0, case.1, waits, multiplier)?;
     }
     Ok(())
 }

@@ -44,14 +44,18 @@ fn hears<A: Application>(
     let Ok(response) = card.hear(frame, &mut out) else {
         return Err(Fail::new("refused"));
     };
-    assert_eq!(rt; response.given, given);
-    assert_eq!(rt; response.len.is_some(), !answer.is_empty());
+    assert_eq!(rt; response.given, given, "heard {frame:?}");
+    assert_eq!(rt;
+        response.len.is_some(),
+        !answer.is_empty(),
+        "heard {frame:?}"
+    );
     let len = response.len.unwrap_or(0);
-    assert!(rt; len <= GREATEST_FRAME);
+    assert!(rt; len <= GREATEST_FRAME, "heard {frame:?}");
     let (front, rest) = out.split_at(len);
-    assert_eq!(rt; front, answer);
+    assert_eq!(rt; front, answer, "heard {frame:?}");
     for byte in rest {
-        assert_eq!(rt; *byte, UNTOUCHED);
+        assert_eq!(rt; *byte, UNTOUCHED, "heard {frame:?}");
     }
     Ok(())
 }
@@ -90,8 +94,7 @@ pub fn play_turn<A: Application>(
 // Frames one after the other.
 fn play<A: Application>(rt: &impl Abort, card: &mut Card<A>, turns: &[Turn]) -> Result<(), Fail> {
     for turn in turns {
-        let body = turn.1;
-        play_turn(rt, card, turn.0, body, turn.2).note(format_args!("heard {body:?}"))?;
+        play_turn(rt, card, turn.0, turn.1, turn.2)?;
     }
     Ok(())
 }

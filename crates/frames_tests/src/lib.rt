@@ -40,7 +40,7 @@ mod tests {
             return Err(Fail::new("refused"));
         };
         assert!(rt; n == 4);
-        assert_eq!(rt; &buffer[0..4], &[0xBA, 0x41, 0x33, 0x8A]);
+        assert_eq!(rt; &buffer[0..4], [0xBA, 0x41, 0x33, 0x8A].as_slice());
         match read_block(&buffer[0..4], 16, Agreed::Number(1)) {
             Ok(Block::R { nak, number, .. }) => {
                 assert!(rt; nak && !number);
