@@ -9,3 +9,4 @@ mod printing;
 mod words;
 
 pub use lines::push_output;
+pub use text::text_comes_back;

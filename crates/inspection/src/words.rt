@@ -2,10 +2,19 @@
 ghost use Rattle.std.specs.Prelude.{◌≡◌};
 ghost use Rattle.std.specs.Option.{option_map};
 ghost use Rattle.frames.specs.Views.{agreement};
-ghost use Rattle.inspection.specs.Words.{limit_in, card_in};
+ghost use Rattle.inspection.specs.Words.{number_in, limit_in, card_in};
 
 use frames::{Agreed, GREATEST_FRAME};
-use text::number_in;
+
+// The number that digits stand for, at most 1000.
+pub fn number_in(field: &[u8]) -> Option<usize>
+    ensures { result ≡ number_in field.now }
+{
+    match text::number_in(field) {
+        Some(n) => Some(n.min(1000)),
+        None => None,
+    }
+}
 
 pub fn limit_in(field: &[u8]) -> Option<usize>
     ensures { result ≡ limit_in field.now }

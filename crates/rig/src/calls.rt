@@ -10,8 +10,7 @@ use super::report::{Report, of_block, of_cause};
 use frames::{Agreed, read_block};
 
 // Seals `body` into `out`, and gives the frame's length.
-#[unsafe(no_mangle)]
-pub extern "C" fn hurimpas_seal(body: &[u8], out: &mut [u8], n: &mut usize) -> u8
+pub fn hurimpas_seal(body: &[u8], out: &mut [u8], n: &mut usize) -> u8
     ensures number { result ≡ seal_number (sealing body.now (length out.old)) }
     ensures bytes { out.new ≡ written (sealing body.now (length out.old)) (seal body.now) out.old }
     ensures long { n.new ≡ seal_length (sealing body.now (length out.old)) n.old }
@@ -38,8 +37,7 @@ fn agreed_by(n: u8) -> Option<Agreed>
 }
 
 // Reads `frame` as a receiver of frame size `limit` does, and reports what it is.
-#[unsafe(no_mangle)]
-pub extern "C" fn hurimpas_read(frame: &[u8], limit: usize, agreed: u8, report: &mut Report) -> u8
+pub fn hurimpas_read(frame: &[u8], limit: usize, agreed: u8, report: &mut Report) -> u8
     ensures number { result ≡ read_number (read_by limit agreed frame.now) }
     ensures report { report.new ≡ reported (read_by limit agreed frame.now) report.old }
 {
