@@ -1,5 +1,5 @@
 -- An ATS that is read has no reserved values.
-use Rattle.std.proofs.Common.{◌≡◌, ℕ, ◌-◌, ◌<◌, ◌≤◌, Bool, true, false, cond, ltb, List, [], ◌∷◌, length, get_or, refl, subst, arith, lit<, lit≤}
+use Rattle.std.proofs.Common.{◌≡◌, ℕ, ◌<◌, Bool, true, false, cond, ltb, List, [], ◌∷◌, length, get_or, refl, subst, arith, lit<, lit≤}
 use Rattle.std.proofs.lemmas.Bool.{leb-true, ltb-true}
 use Rattle.frames.specs.Causes.{Cause}
 use Rattle.activation.specs.Ats.{Ats, AtsRead, good, bad, absent, has_ta, has_tb, has_tc, announced, byte_or, behind, t0_good, ta_good, tb_good, tc_good, read_interface, read_format, length_byte_good}

@@ -1,6 +1,6 @@
 -- PPS: the reader chooses a divisor for each direction among those that TA offers; the card's response repeats the
 -- first byte. The codes 0 to 3 stand for the divisors 1, 2, 4 and 8.
-use Rattle.std.specs.Prelude.{ℕ, ◌+◌, ◌*◌, ◌/◌, ◌%◌, Bool, true, false, cond, not, List, [], ◌∷◌, ◌==◌, nat_lt}
+use Rattle.std.specs.Prelude.{ℕ, ◌+◌, ◌*◌, ◌/◌, ◌%◌, Bool, true, false, cond, List, [], ◌∷◌, ◌==◌, nat_lt}
 use Rattle.frames.specs.Causes.{Cause, cause, activation}
 use Rattle.frames.specs.Check.{both}
 use Rattle.frames.specs.Reading.{has}

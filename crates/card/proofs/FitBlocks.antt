@@ -1,5 +1,5 @@
 -- The blocks that a card sends can be written.
-use Rattle.std.proofs.Common.{◌≡◌, ℕ, ◌+◌, ◌-◌, ◌<◌, ◌≤◌, Bool, true, false, cond, List, length, take, drop, refl, arith, length-append, length-drop, length-take}
+use Rattle.std.proofs.Common.{◌≡◌, ℕ, ◌+◌, ◌<◌, ◌≤◌, Bool, true, false, cond, List, length, take, drop, refl, arith, length-append, length-drop, length-take}
 use Rattle.std.proofs.lemmas.Bool.{ltb-true}
 use Rattle.frames.specs.Blocks.{r_block, wait, Cid, without, numbered, ValidCid, cid_bytes}
 use Rattle.frames.specs.Sizes.{size_of, greatest_code, longest_body}

@@ -3,7 +3,6 @@ use Rattle.std.proofs.Common.{◌≡◌, ℕ, ◌+◌, Bool, true, false, cond, 
 use Rattle.frames.specs.declared.block.CardNumber.{CardNumber}
 use Rattle.frames.specs.Blocks.{i_block, frame_of}
 use Rattle.frames.specs.Views.{cid_seen}
-use Rattle.protocol.specs.Card as model
 use Rattle.protocol.specs.Card.{Awake, awake, sent, reply, remains, turned, owes_nothing, owes_rest, owed_after, card_room, sends_answer}
 use Rattle.protocol.specs.Reader.{more}
 use Rattle.card.specs.declared.last.LastBlock.TheVariants.{Part}

@@ -1,11 +1,11 @@
 -- The laws of blocks and their frames.
-use Rattle.std.proofs.Common.{◌≡◌, ℕ, ◌+◌, ◌-◌, ◌<◌, ◌≤◌, List, [], length, get_or, sym, refl, ap, ◌∙◌, subst, ⊎_elim, arith}
+use Rattle.std.proofs.Common.{◌≡◌, ℕ, ◌<◌, ◌≤◌, List, length, sym, refl, ap, ◌∙◌, subst, ⊎_elim, arith}
 use Rattle.std.proofs.lemmas.List.{get_or_append_left, get_or_past}
 use Rattle.std.proofs.lemmas.Bool.{cases_lt}
-use Rattle.frames.specs.Blocks.{Block, i_block, r_block, deselect, wait, ValidBlock, bytes_of, frame_of}
+use Rattle.frames.specs.Blocks.{Block, i_block, r_block, deselect, wait, bytes_of, frame_of}
 use Rattle.frames.specs.Check.{seal, check_of, Opened, opened, unopened, open_frame}
 use Rattle.frames.specs.Laws.{Bytes, ReadsItsFrame, NeverReadsNoise, ReadsOnlyItsFrame, FramesDiffer}
-use Rattle.frames.specs.Reading.{Agreed, Reading, valid, invalid, read_body, read_opened, read_frame}
+use Rattle.frames.specs.Reading.{Agreed, valid, read_body, read_opened, read_frame}
 use Rattle.frames.proofs.Decoding.{decode, decodes, reads_bytes}
 use Rattle.frames.proofs.Encoding.{same_block, never, read_back}
 use Rattle.frames.proofs.FrameLaws.{opens_to_its_body, opens_if_sealed, seal_apart}

@@ -1,11 +1,11 @@
 -- A block's bytes are read as that block.
-use Rattle.std.proofs.Common.{◌≡◌, ℕ, ◌+◌, ◌*◌, ◌/◌, ◌%◌, ◌<◌, Bool, true, false, cond, eqb, ltb, List, [], ◌∷◌, ◌++◌, length, get_or, drop, sym, refl, ap, ◌∙◌, ap₂, append-nil, arith, length-append}
+use Rattle.std.proofs.Common.{◌≡◌, ℕ, ◌+◌, ◌*◌, ◌/◌, ◌%◌, ◌<◌, Bool, true, cond, List, [], ◌∷◌, ◌++◌, length, drop, sym, refl, ap, ◌∙◌, ap₂, append-nil, arith, length-append}
 use Rattle.std.proofs.lemmas.Bool.{lt-ltb, eq-eqb}
 use Rattle.frames.specs.Blocks.{Cid, Block, i_block, r_block, deselect, wait, ValidCid, ValidBlock, follows, i_control, r_control, deselect_control, wait_control, cid_bytes, bytes_of}
 use Rattle.frames.specs.Causes.{without_kind, length_wrong, card_wrong, multiplier_reserved}
 use Rattle.frames.specs.Check.{both}
 use Rattle.frames.specs.Laws.{cid_in}
-use Rattle.frames.specs.Reading.{Kind, i_kind, r_kind, deselect_kind, wait_kind, no_kind, kind_of, is_kind, has, Agreed, agrees, Reading, valid, invalid, cid_size, length_fits, cid_of, cid_good, multiplier_good, block_of, read_rest, read_body}
+use Rattle.frames.specs.Reading.{Kind, i_kind, r_kind, deselect_kind, wait_kind, kind_of, is_kind, has, Agreed, agrees, Reading, valid, invalid, cid_size, length_fits, cid_of, cid_good, multiplier_good, block_of, read_rest, read_body}
 use Rattle.frames.proofs.Cids.{cid_there, behind_cid, cid_good_lem, cid_long}
 use Rattle.frames.proofs.Controls.{Says, i_says, r_says, deselect_says, wait_says, i_high, i_low, r_high, r_low}
 

@@ -1,12 +1,11 @@
 -- What is read as a block is that block's bytes.
-use Rattle.std.proofs.Common.{◌≡◌, ℕ, suc, ◌+◌, ◌-◌, ◌*◌, ◌/◌, ◌%◌, ◌<◌, ◌≤◌, Bool, true, false, cond, eqb, ltb, List, [], ◌∷◌, ◌++◌, length, get_or, drop, sym, refl, ap, ◌∙◌, subst, ap₂, append-nil, arith, length-drop}
+use Rattle.std.proofs.Common.{◌≡◌, ℕ, suc, ◌+◌, ◌-◌, ◌*◌, ◌/◌, ◌%◌, ◌<◌, ◌≤◌, Bool, true, false, cond, ltb, List, [], ◌∷◌, ◌++◌, length, get_or, drop, sym, refl, ap, ◌∙◌, subst, ap₂, append-nil, arith, length-drop}
 use Rattle.std.proofs.lemmas.List.{nil_from_length, get_or-drop}
 use Rattle.std.proofs.lemmas.Bool.{ltb-true, eqb-true, false≢true}
-use Rattle.frames.specs.Blocks.{Cid, Block, i_block, r_block, deselect, wait, ValidCid, ValidBlock, follows, i_control, r_control, deselect_control, wait_control, cid_bytes, bytes_of}
+use Rattle.frames.specs.Blocks.{Cid, Block, wait, ValidBlock, i_control, r_control, deselect_control, wait_control, cid_bytes, bytes_of}
 use Rattle.frames.specs.Causes.{Cause, without_kind, length_wrong, card_wrong, multiplier_reserved}
-use Rattle.frames.specs.Check.{both}
 use Rattle.frames.specs.Laws.{Bytes, cid_in}
-use Rattle.frames.specs.Reading.{Kind, i_kind, r_kind, deselect_kind, wait_kind, no_kind, kind_of, is_kind, has, Agreed, agrees, Reading, valid, invalid, cid_size, length_fits, cid_of, cid_good, multiplier_good, block_of, read_body}
+use Rattle.frames.specs.Reading.{Kind, i_kind, r_kind, deselect_kind, wait_kind, no_kind, kind_of, has, Agreed, agrees, Reading, valid, invalid, cid_size, length_fits, cid_of, cid_good, multiplier_good, block_of, read_body}
 use Rattle.frames.proofs.Boths.{both_true}
 use Rattle.frames.proofs.Cids.{ReadBack, cid_back}
 use Rattle.frames.proofs.Controls.{control, control_back}

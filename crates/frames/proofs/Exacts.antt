@@ -1,8 +1,7 @@
 -- What is accepted, exactly.
-use Rattle.std.proofs.Common.{◌≡◌, sym, ap, ◌∙◌, subst}
-use Rattle.frames.specs.Blocks.{frame_of}
+use Rattle.std.proofs.Common.{sym, ap, ◌∙◌}
 use Rattle.frames.specs.Exactly.{AcceptedExactly, OneFrame}
-use Rattle.frames.specs.Reading.{valid, read_frame}
+use Rattle.frames.specs.Reading.{read_frame}
 use Rattle.frames.proofs.BlockLaws.{reads_its_frame, reads_only_its_frame}
 
 pub accepted_exactly : AcceptedExactly

@@ -1,11 +1,11 @@
 -- The laws of frames: sealing, opening, noise.
-use Rattle.std.proofs.Common.{◌≡◌, ℕ, ◌+◌, ◌-◌, ◌/◌, ◌%◌, ◌<◌, ◌≤◌, Bool, true, false, eqb, List, [], ◌∷◌, ◌++◌, length, get_or, take, drop, sym, refl, ap, ◌∙◌, subst, ap₂, append_assoc, arith, take-append-drop}
+use Rattle.std.proofs.Common.{◌≡◌, ℕ, ◌+◌, ◌-◌, ◌/◌, ◌%◌, ◌<◌, ◌≤◌, true, eqb, List, [], ◌∷◌, ◌++◌, length, get_or, take, sym, refl, ap, ◌∙◌, ap₂, append_assoc, arith, take-append-drop}
 use Rattle.std.proofs.lemmas.List.{take_at, get_or_at, drop_more, drop_all, length_push, same_from_push}
 use Rattle.std.proofs.lemmas.Bool.{eq-eqb, eqb-true}
 use Rattle.frames.specs.Check.{both, register, check_of, seal, body_of, checks, opened, open_frame, register_from, unopened, take_in, shift8}
-use Rattle.frames.specs.Laws.{Noise, TwoMore, BeginsWithItsBody, OpensToItsBody, OpensIfSealed, SpoiltIsNoise, ZerosAreNoise}
+use Rattle.frames.specs.Laws.{TwoMore, BeginsWithItsBody, OpensToItsBody, OpensIfSealed, SpoiltIsNoise, ZerosAreNoise}
 use Rattle.frames.proofs.Boths.{both_true}
-use Rattle.frames.proofs.Opening.{Opens, opens}
+use Rattle.frames.proofs.Opening.{opens}
 use Rattle.frames.proofs.Sealed.{two_more, open_checked}
 use Rattle.frames.specs.Causes.{check_wrong}
 

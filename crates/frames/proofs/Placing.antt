@@ -1,5 +1,5 @@
 -- From the parts of a frame to the whole.
-use Rattle.std.proofs.Common.{◌≡◌, ℕ, suc, ◌-◌, ◌≤◌, Bool, true, cond, List, ◌∷◌, drop, Ok, Err, Result, sym, refl, ap, ◌∙◌, arith}
+use Rattle.std.proofs.Common.{◌≡◌, ℕ, suc, ◌-◌, true, cond, List, ◌∷◌, drop, Ok, Err, Result, sym, refl, ap, ◌∙◌, arith}
 use Rattle.frames.specs.declared.block.Block as coded
 use Rattle.frames.specs.declared.block.Block.TheVariants as blocks
 use Rattle.frames.specs.declared.fault.BlockFault.{BlockFault}

@@ -1,11 +1,10 @@
 -- The parts of a frame, by numbers as the code has them.
-use Rattle.std.proofs.Common.{◌≡◌, ℕ, ◌+◌, ◌-◌, ◌/◌, ◌%◌, ◌<◌, ◌≤◌, Bool, true, false, eqb, ltb, leb, List, [], ◌∷◌, ◌++◌, length, get_or, take, Ok, Err, Result, sym, refl, ap, ◌∙◌, ap₂, arith, length-append}
+use Rattle.std.proofs.Common.{◌≡◌, ℕ, ◌+◌, ◌-◌, ◌/◌, ◌%◌, ◌<◌, ◌≤◌, true, false, eqb, List, [], ◌∷◌, length, get_or, take, Ok, ap, ◌∙◌, ap₂, arith, length-append}
 use Rattle.std.proofs.lemmas.Bool.{lt-ltb, le-ltb, le-leb}
-use Rattle.frames.specs.declared.refusal.Refusal.{Refusal}
 use Rattle.buffers.specs.Over.{over}
 use Rattle.buffers.proofs.Overs.{take-over, over_again}
 use Rattle.frames.specs.Causes.{too_short, too_long, check_wrong}
-use Rattle.frames.specs.Check.{both, register, check_of, seal, body_of, checks, Opened, opened, unopened, open_frame}
+use Rattle.frames.specs.Check.{both, register, check_of, seal, body_of, checks, opened, unopened, open_frame}
 use Rattle.frames.specs.Sizes.{greatest_frame, longest_body}
 use Rattle.frames.specs.Sealing.{sealing}
 

@@ -1,5 +1,5 @@
 -- The frame check CRC_A, and the frame of a body: the body, then its check.
-use Rattle.std.specs.Prelude.{◌≡◌, ℕ, ◌-◌, ◌/◌, ◌%◌, ◌≤◌, Bool, true, false, cond, List, [], ◌∷◌, ◌++◌, length, take, ◌==◌, bit_xor, nat_lt, slice_index}
+use Rattle.std.specs.Prelude.{ℕ, ◌-◌, ◌/◌, ◌%◌, Bool, true, false, cond, List, [], ◌∷◌, ◌++◌, length, take, ◌==◌, bit_xor, nat_lt, slice_index}
 use Rattle.frames.specs.Causes.{Cause, too_short, too_long, check_wrong}
 
 abbrev pub both : Bool → Bool → Bool

@@ -1,8 +1,8 @@
 -- The laws of frames and blocks. The layers above rest on these and open no definition of the check.
 use Rattle.std.specs.Prelude.{◌≡◌, ℕ, ◌+◌, ◌<◌, ◌≤◌, true, List, [], ◌∷◌, ◌++◌, length, take, ◌≢◌, slice_index}
-use Rattle.frames.specs.Check.{seal, Opened, opened, open_frame}
-use Rattle.frames.specs.Blocks.{Block, i_block, r_block, deselect, wait, Cid, ValidBlock, bytes_of, frame_of}
-use Rattle.frames.specs.Reading.{Agreed, agrees, Reading, valid, read_frame}
+use Rattle.frames.specs.Check.{seal, opened, open_frame}
+use Rattle.frames.specs.Blocks.{Block, i_block, r_block, deselect, wait, Cid, ValidBlock, frame_of}
+use Rattle.frames.specs.Reading.{Agreed, agrees, valid, read_frame}
 
 -- the card number that a block is sent with
 abbrev pub cid_in : Block → Cid

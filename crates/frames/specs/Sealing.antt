@@ -3,10 +3,8 @@ use Rattle.std.specs.Prelude.{ℕ, Bool, cond, List, length, Ok, Err, Result, na
 use Rattle.buffers.specs.Over.{over}
 use Rattle.frames.specs.declared.refusal.Refusal.{Refusal}
 use Rattle.frames.specs.declared.refusal.Refusal.TheVariants.{Length, Buffer}
-use Rattle.frames.specs.declared.fault.FrameFault.{FrameFault}
 use Rattle.frames.specs.Sizes.{greatest_frame, longest_body}
-use Rattle.frames.specs.Check.{seal, both, Opened, opened, unopened}
-use Rattle.frames.specs.Faults.{frame_cause}
+use Rattle.frames.specs.Check.{seal, both}
 
 -- a body that can be sealed has 1 to 254 bytes
 abbrev pub sealable : List ℕ → Bool

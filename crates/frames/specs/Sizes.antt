@@ -1,5 +1,5 @@
 -- Frame sizes, and what follows from the greatest of them.
-use Rattle.std.specs.Prelude.{ℕ, ◌-◌, ◌<◌, List, [], ◌∷◌, slice_index}
+use Rattle.std.specs.Prelude.{ℕ, ◌-◌, List, [], ◌∷◌, slice_index}
 
 -- the frame sizes of the codes 0 to 8
 abbrev pub sizes : List ℕ

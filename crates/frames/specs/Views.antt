@@ -9,7 +9,7 @@ use Rattle.frames.specs.declared.block.Block.TheVariants.{I, R, Deselect, Wait}
 use Rattle.frames.specs.declared.fault.FrameFault.{FrameFault}
 use Rattle.frames.specs.declared.fault.BlockFault.{BlockFault}
 use Rattle.frames.specs.Blocks.{Cid, without, numbered, Block, i_block, r_block, deselect, wait, follows}
-use Rattle.frames.specs.Check.{Opened, opened, unopened, body_of}
+use Rattle.frames.specs.Check.{Opened, opened, unopened}
 use Rattle.frames.specs.Faults.{frame_cause, block_cause}
 use Rattle.frames.specs.Reading.{Agreed, no_number, number, zero_or_none, Reading, valid, invalid, cid_size}
 

@@ -1,5 +1,5 @@
 -- What writing a block into a buffer answers.
-use Rattle.std.specs.Prelude.{ℕ, Bool, true, cond, List, length, Ok, Err, Result, nat_le, nat_lt}
+use Rattle.std.specs.Prelude.{ℕ, Bool, true, cond, length, Ok, Err, Result, nat_le, nat_lt}
 use Rattle.frames.specs.declared.refusal.Refusal.{Refusal}
 use Rattle.frames.specs.declared.refusal.Refusal.TheVariants.{Setting, Length, Buffer}
 use Rattle.frames.specs.Blocks.{Cid, without, numbered, Block, i_block, r_block, deselect, wait, bytes_of, frame_of}

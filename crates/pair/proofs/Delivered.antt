@@ -1,5 +1,5 @@
 -- A reply that the card wrote into a buffer of the greatest frame.
-use Rattle.std.proofs.Common.{◌≡◌, ℕ, ◌+◌, ◌-◌, Bool, true, false, cond, List, length, take, drop, None, Ok, Err, Option, Result, refl, ap, ◌∙◌, arith, length-append}
+use Rattle.std.proofs.Common.{◌≡◌, ℕ, ◌+◌, Bool, true, false, cond, List, length, take, drop, None, Ok, Err, Option, Result, refl, ap, ◌∙◌, arith, length-append}
 use Rattle.std.proofs.lemmas.Bool.{le-leb}
 use Rattle.buffers.proofs.Overs.{take-over}
 use Rattle.card.specs.Calls.{hearing, card_heard, state_heard, buffer_heard}

@@ -1,5 +1,5 @@
 -- An ATS that wakes a reader has no more historical bytes than a store for answers holds.
-use Rattle.std.proofs.Common.{◌≡◌, ℕ, ◌+◌, ◌-◌, ◌≤◌, Bool, true, false, cond, not, ltb, leb, List, ◌++◌, length, refl, ap, ◌∙◌, arith, length-append}
+use Rattle.std.proofs.Common.{◌≡◌, ℕ, ◌+◌, ◌≤◌, Bool, true, false, cond, not, ltb, leb, List, ◌++◌, length, refl, ap, ◌∙◌, arith, length-append}
 use Rattle.activation.specs.Ats.{Ats, AtsRead, good, bad, read_ats_opened}
 use Rattle.activation.specs.Pps.{greatest_rate, offered, is_pps_answer, pps_answer_wrong}
 use Rattle.activation.proofs.Whole.{good_is_whole}

@@ -1,8 +1,8 @@
 -- Waking a card: what holds while the reader asks, and while it chooses rates.
 use Rattle.std.proofs.Common.{◌≡◌, ℕ, zero, suc, ◌+◌, ◌*◌, ◌<◌, ◌≤◌, Bool, true, false, cond, List, [], ◌∷◌, length, sym, refl, ap, ◌∙◌, arith, lit≤}
 use Rattle.activation.specs.Ats.{good, hear_ats, read_ats_opened, ats_of}
-use Rattle.activation.specs.Pps.{PpsRead, pps, no_pps, pps_of, pps_answer, read_pps, offered, greatest_rate}
-use Rattle.activation.specs.Rats.{RatsRead, rats, rats_of}
+use Rattle.activation.specs.Pps.{PpsRead, no_pps, pps_of, pps_answer, read_pps, offered, greatest_rate}
+use Rattle.activation.specs.Rats.{RatsRead, rats_of}
 use Rattle.applications.specs.App.{App}
 use Rattle.frames.specs.Blocks.{numbered, without}
 use Rattle.frames.specs.Causes.{Cause, without_kind}
@@ -16,7 +16,7 @@ use Rattle.protocol.specs.Reader.{link_of}
 use Rattle.protocol.specs.Settings.{CardSettings, ats_for}
 use Rattle.protocol.proofs.Ends.{cid_for}
 use Rattle.protocol.proofs.Ground.{Ground}
-use Rattle.protocol.proofs.Phases.{link_at, cid}
+use Rattle.protocol.proofs.Phases.{link_at}
 use Rattle.protocol.proofs.Rests.{Laws}
 
 -- no block begins with D

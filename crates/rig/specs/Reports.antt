@@ -2,8 +2,8 @@
 use Rattle.std.specs.Prelude.{ℕ, Bool, true, false, cond, List, length, Some, None, Ok, Err, Option, Result, ◌==◌, nat_lt}
 use Rattle.std.specs.Option.{option_map}
 use Rattle.frames.specs.declared.Refusal.{Refusal}
-use Rattle.frames.specs.Blocks.{Cid, without, numbered, Block, i_block, r_block, deselect, wait}
-use Rattle.frames.specs.Causes.{Layer, frame, activation, block, Cause}
+use Rattle.frames.specs.Blocks.{Cid, without, numbered, i_block, r_block, deselect, wait}
+use Rattle.frames.specs.Causes.{Layer, frame, activation, block}
 use Rattle.frames.specs.Reading.{Agreed, no_number, number, zero_or_none, Reading, valid, invalid, read_frame}
 use Rattle.frames.specs.Refusals.{setting_refused}
 use Rattle.frames.specs.Refused.{refusal_number}

@@ -1,5 +1,5 @@
 -- The calls of a script, a line each.
-use Rattle.std.specs.Prelude.{ℕ, Bool, true, false, cond, List, Some, None, codes, Option}
+use Rattle.std.specs.Prelude.{ℕ, Bool, cond, List, Some, None, codes, Option}
 use Rattle.frames.specs.Check.{both}
 use Rattle.protocol.specs.Field.{Fate, whole, lost, spoilt}
 use Rattle.text.specs.Hex.{bytes_in}

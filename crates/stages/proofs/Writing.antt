@@ -19,7 +19,7 @@ use Rattle.frames.specs.declared.block.CardNumber.{CardNumber}
 use Rattle.frames.specs.declared.refusal.Refusal.{Refusal}
 use Rattle.frames.specs.declared.refusal.Refusal.TheVariants.{Buffer}
 use Rattle.protocol.specs.Reader.{Outcome, refused, wrote, activation_time}
-use Rattle.stages.specs.Requests.{sending, Writes}
+use Rattle.stages.specs.Requests.{Writes}
 
 -- what a writer answers that only the buffer can stop
 abbrev pub fitting : List ℕ → ℕ → Result ℕ Refusal

@@ -5,7 +5,7 @@ use Rattle.exchange.specs.Moves.{buffer_after}
 use Rattle.frames.specs.Refusals.{buffer_refused}
 use Rattle.frames.specs.Refused.{refusal_number}
 use Rattle.frames.specs.declared.refusal.Refusal.{Refusal}
-use Rattle.protocol.specs.Reader.{Reader, Outcome, refused, fetched, Move, do_call, fetch}
+use Rattle.protocol.specs.Reader.{Reader, Outcome, refused, fetched, do_call, fetch}
 use Rattle.protocol.specs.Settings.{ReaderSettings}
 use Rattle.stages.specs.Calls.{Reply}
 

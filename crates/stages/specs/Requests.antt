@@ -1,5 +1,5 @@
 -- What writing RATS or deselect comes to.
-use Rattle.std.specs.Prelude.{◌≡◌, ℕ, ◌≤◌, Bool, cond, List, length, Ok, Err, Result, nat_lt}
+use Rattle.std.specs.Prelude.{◌≡◌, ℕ, ◌≤◌, cond, List, length, Ok, Err, Result, nat_lt}
 use Rattle.activation.specs.Ats.{AtsRead, good, bad}
 use Rattle.activation.specs.Views.{said_by}
 use Rattle.activation.specs.declared.answer.Ats as heard

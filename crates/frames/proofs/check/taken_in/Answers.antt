@@ -1,4 +1,4 @@
-use Rattle.std.proofs.Common.{◌≡◌, ℕ, sym, refl, ap, ◌∙◌, arith}
+use Rattle.std.proofs.Common.{◌≡◌, sym, refl, ap, ◌∙◌, arith}
 use lib.Bits.{bit_xor}
 use Rattle.frames.specs.Check.{shift, shift8, take_in}
 use Rattle.frames.proofs.Shifts.{shifts, shifts_more, shifts_eight}

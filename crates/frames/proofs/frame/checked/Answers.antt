@@ -1,6 +1,6 @@
-use Rattle.std.proofs.Common.{◌≡◌, ℕ, ◌+◌, ◌-◌, Bool, eqb, List, length, get_or, sym, refl, ap, ◌∙◌, arith}
+use Rattle.std.proofs.Common.{ℕ, ◌+◌, ◌-◌, Bool, eqb, List, length, get_or, sym, refl, ap, ◌∙◌, arith}
 use Rattle.std.proofs.lemmas.Bool.{eq-eqb, ne_eqb}
-use Rattle.frames.specs.Check.{both, checks}
+use Rattle.frames.specs.Check.{both}
 use Rattle.frames.proofs.Sealed.{checks_by}
 use Rattle.frames.proofs.frame.checked.Goals as goal
 

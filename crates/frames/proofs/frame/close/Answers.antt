@@ -1,5 +1,5 @@
-use Rattle.std.proofs.Common.{◌≡◌, ◌-◌, ◌≤◌, List, ◌++◌, length, take, ap, ◌∙◌, arith}
-use Rattle.buffers.specs.Over.{over, over_at}
+use Rattle.std.proofs.Common.{◌≡◌, ◌-◌, ◌≤◌, length, take, ap, ◌∙◌, arith}
+use Rattle.buffers.specs.Over.{over_at}
 use Rattle.buffers.proofs.Overs.{over_behind}
 use Rattle.frames.specs.Check.{seal, check_of}
 use Rattle.frames.proofs.Sealed.{check_bytes}

@@ -1,4 +1,4 @@
-use Rattle.std.proofs.Common.{◌≡◌, ℕ, ◌<◌, length, Ok, Result, sym, refl, ap, ◌∙◌, arith, false-eqb}
+use Rattle.std.proofs.Common.{ℕ, ◌<◌, length, Ok, Result, sym, refl, ap, ◌∙◌, arith, false-eqb}
 use Rattle.buffers.proofs.Overs.{over_first}
 use Rattle.frames.specs.declared.refusal.Refusal.{Refusal}
 use Rattle.frames.proofs.Sealed.{two_more, closed, sealing_goes}

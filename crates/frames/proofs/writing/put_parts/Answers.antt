@@ -1,4 +1,4 @@
-use Rattle.std.proofs.Common.{◌≡◌, ℕ, ◌+◌, List, ◌∷◌, ◌++◌, length, sym, ap, ◌∙◌, length-append}
+use Rattle.std.proofs.Common.{ℕ, ◌+◌, List, ◌∷◌, length, sym, ap, ◌∙◌, length-append}
 use Rattle.buffers.specs.Over.{over_at}
 use Rattle.buffers.proofs.Overs.{over_more}
 use Rattle.frames.specs.Blocks.{cid_bytes}

@@ -1,4 +1,4 @@
-use Rattle.std.proofs.Common.{◌≡◌, ◌+◌, ◌≤◌, ◌++◌, length, vec_items}
+use Rattle.std.proofs.Common.{◌≡◌, ◌≤◌, ◌++◌, length, vec_items}
 use Rattle.pair.specs.Pairs.{world_seen, setup_seen}
 use Rattle.text.specs.Lines.{lines_of}
 use Rattle.trial.specs.Outputs.{rows_from, first_call}
