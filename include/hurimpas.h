@@ -1,9 +1,9 @@
 /*
  * Frames and blocks of ISO/IEC 14443-4, Type A, for rigs in C.
  *
- * Link target/staticlib/librig.a (written by `rt staticlib rig`) and the
- * toolchain's lib/librattle_c.a. Neither call allocates, blocks or keeps
- * anything between calls.
+ * Link target/staticlib/librig.a, which .ci/rig makes (crates/rig_c, built by
+ * `rt lib`); it needs nothing else but memmove. Neither call
+ * allocates, blocks or keeps anything between calls.
  *
  * What the caller owes, at every call:
  * - no pointer is NULL, not even where the length beside it is 0;

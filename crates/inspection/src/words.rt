@@ -7,7 +7,7 @@ ghost use Rattle.inspection.specs.Words.{number_in, limit_in, card_in};
 use frames::{Agreed, GREATEST_FRAME};
 
 // The number that digits stand for, at most 1000.
-pub fn number_in(field: &[u8]) -> Option<usize>
+fn number_in(field: &[u8]) -> Option<usize>
     ensures { result ≡ number_in field.now }
 {
     match text::number_in(field) {

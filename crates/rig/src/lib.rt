@@ -1,4 +1,4 @@
-// Sealing and reading for rigs in C. include/hurimpas.h says what a caller owes.
+// Sealing and reading on numbers and byte buffers, for rigs in C: `rig_c` exports the two calls.
 #![tactic(auto)]
 
 mod calls;
