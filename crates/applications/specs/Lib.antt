@@ -1,12 +1,13 @@
 pub mod App
+pub mod Bounds
 pub mod Command
 pub mod History
 pub mod Metre
+pub mod MetreBounds
 pub mod MetreLaws
 pub mod Outcome
+pub mod Records
 pub mod Status
+pub mod Words
 pub mod Yarn
 pub mod YarnLaws
-pub mod Bounds
-pub mod Words
-pub mod Records

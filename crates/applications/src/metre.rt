@@ -1,7 +1,8 @@
 // The metre counter: a count of metres that draws take from.
 ghost use Rattle.std.specs.Prelude.{◌≡◌};
-ghost use Rattle.applications.specs.Metre.{metre, counting, remaining, draw_status};
-ghost use Rattle.std.proofs.Common.{rules};
+ghost use Rattle.applications.specs.Bounds.{keeps_doing};
+ghost use Rattle.applications.specs.Metre.{metre, counting, remaining, draw_status, done, request_of};
+ghost use Rattle.applications.specs.MetreBounds.{metre_bounded};
 
 use crate::answer::put_answer;
 use crate::application::{Application, LONGEST_ANSWER, Reply};
@@ -49,7 +50,7 @@ impl Metre {
 impl Application for Metre {
     ghost model = { metre };
 
-    ghost keeps = { Prim.search rules };
+    ghost keeps = { keeps_doing (λ m c. done m (request_of c)) (λ m c. metre_bounded m (request_of c)) };
 
     fn respond(&mut self, command: &[u8], answer: &mut [u8; LONGEST_ANSWER]) -> Reply {
         match Request::read(command) {
