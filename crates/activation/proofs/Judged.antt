@@ -41,7 +41,7 @@ valid_interface t0 rest a fine byte e =
     record {
       fsci_high = leb-true _ _ (both_true _ _ fine).1;
       ta_byte = a_byte (has_ta t0) 0 rest (omega arith) byte;
-      ta_good_lem = s1.0;
+      ta_allowed = s1.0;
       fwi_high = ltb-true _ _ tb-parts.0;
       sfgi_high = ltb-true _ _ tb-parts.1;
       tc_high = ltb-true _ _ s3.0;
@@ -53,7 +53,7 @@ valid_format [] a byte e =
     record {
       fsci_high = lit≤ tt;
       ta_byte = lit< tt;
-      ta_good_lem = refl;
+      ta_allowed = refl;
       fwi_high = lit< tt;
       sfgi_high = lit< tt;
       tc_high = lit< tt;

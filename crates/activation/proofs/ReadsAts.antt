@@ -53,4 +53,4 @@ reads_ats fsd a v fits =
     let fwi = lt-ltb a.fwi 15 v.fwi_high in
     let sfgi = lt-ltb a.sfgi 15 v.sfgi_high in
     let tc = lt-ltb a.tc 4 v.tc_high in
-    rw (tl, t0.fine, t0.ta, t0.tb, t0.tc, enough n, v.ta_good_lem, upper a.fwi a.sfgi low, lower a.fwi a.sfgi low, fwi, sfgi, tc, t0.size)
+    rw (tl, t0.fine, t0.ta, t0.tb, t0.tc, enough n, v.ta_allowed, upper a.fwi a.sfgi low, lower a.fwi a.sfgi low, fwi, sfgi, tc, t0.size)

@@ -15,7 +15,7 @@ writes_rats r buffer range room =
 
 pub writes_ats : WritesAts
 writes_ats a buffer v long room =
-    rw (le-leb a.fsci greatest_code v.fsci_high, v.ta_good_lem, lt-ltb a.fwi 15 v.fwi_high, lt-ltb a.sfgi 15 v.sfgi_high, lt-ltb a.tc 4 v.tc_high)
+    rw (le-leb a.fsci greatest_code v.fsci_high, v.ta_allowed, lt-ltb a.fwi 15 v.fwi_high, lt-ltb a.sfgi 15 v.sfgi_high, lt-ltb a.tc 4 v.tc_high)
     (sealing_goes (ats_of a) buffer room (omega arith) (omega arith))
 
 pub writes_pps : WritesPps

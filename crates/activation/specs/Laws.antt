@@ -23,7 +23,7 @@ ReadsOnlyRats =
 pub record ValidAts (a : Ats) : Type 0 where
   pub fsci_high : a.fsci ≤ greatest_code
   pub ta_byte : a.ta < 256
-  pub ta_good_lem : ta_good a.ta ≡ true
+  pub ta_allowed : ta_good a.ta ≡ true
   pub fwi_high : a.fwi < 15
   pub sfgi_high : a.sfgi < 15
   pub tc_high : a.tc < 4

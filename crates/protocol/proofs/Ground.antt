@@ -42,7 +42,7 @@ ground rs cs r c =
           record {
             fsci_high = fsci;
             ta_byte = ltb-true cs.ta 256 (both_left _ _ ta);
-            ta_good_lem = both_right (ltb cs.ta 256) _ ta;
+            ta_allowed = both_right (ltb cs.ta 256) _ ta;
             fwi_high = ltb-true cs.fwi 15 (both_left _ _ c₁);
             sfgi_high = ltb-true cs.sfgi 15 (both_left _ _ c₂);
             tc_high = tc_most cs.supports;
