@@ -3,7 +3,7 @@ ghost use Rattle.std.specs.Prelude.{◌≡◌};
 ghost use Rattle.frames.specs.Causes.{cause, activation};
 ghost use Rattle.frames.specs.Faults.{cause_seen};
 ghost use Rattle.activation.specs.Faults.{activation_cause};
-ghost use Rattle.activation.specs.declared.fault.ActivationFault.TheVariants.{Frame as frameFault};
+ghost use Rattle.activation.specs.declared.fault.ActivationFault.TheVariants.{Frame as frame_fault};
 
 use frames::{Cause, FrameFault, Layer};
 
@@ -44,7 +44,7 @@ impl ActivationFault {
 }
 
 impl From<FrameFault> for ActivationFault {
-    ghost from_gives = { λ fault r. r ≡ frameFault fault };
+    ghost from_gives = { λ fault r. r ≡ frame_fault fault };
 
     fn from(fault: FrameFault) -> ActivationFault {
         ActivationFault::Frame(fault)

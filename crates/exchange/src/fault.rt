@@ -2,7 +2,7 @@
 ghost use Rattle.std.specs.Prelude.{◌≡◌};
 ghost use Rattle.frames.specs.Faults.{cause_seen};
 ghost use Rattle.exchange.specs.Faults.{session_cause};
-ghost use Rattle.exchange.specs.declared.fault.SessionFault.TheVariants.{Frame as frameFault, Block as blockFault, Activation as activationFault};
+ghost use Rattle.exchange.specs.declared.fault.SessionFault.TheVariants.{Frame as frame_fault, Block as block_fault, Activation as activation_fault};
 
 use activation::ActivationFault;
 use frames::{BlockFault, Cause, FrameFault};
@@ -30,7 +30,7 @@ impl SessionFault {
 }
 
 impl From<FrameFault> for SessionFault {
-    ghost from_gives = { λ fault r. r ≡ frameFault fault };
+    ghost from_gives = { λ fault r. r ≡ frame_fault fault };
 
     fn from(fault: FrameFault) -> SessionFault {
         SessionFault::Frame(fault)
@@ -38,7 +38,7 @@ impl From<FrameFault> for SessionFault {
 }
 
 impl From<BlockFault> for SessionFault {
-    ghost from_gives = { λ fault r. r ≡ blockFault fault };
+    ghost from_gives = { λ fault r. r ≡ block_fault fault };
 
     fn from(fault: BlockFault) -> SessionFault {
         SessionFault::Block(fault)
@@ -46,7 +46,7 @@ impl From<BlockFault> for SessionFault {
 }
 
 impl From<ActivationFault> for SessionFault {
-    ghost from_gives = { λ fault r. r ≡ activationFault fault };
+    ghost from_gives = { λ fault r. r ≡ activation_fault fault };
 
     fn from(fault: ActivationFault) -> SessionFault {
         SessionFault::Activation(fault)

@@ -2,7 +2,7 @@
 ghost use Rattle.std.specs.Prelude.{◌≡◌};
 ghost use Rattle.frames.specs.Causes.{cause, block};
 ghost use Rattle.frames.specs.Faults.{cause_seen, frame_cause, block_cause};
-ghost use Rattle.frames.specs.declared.fault.BlockFault.TheVariants.{Frame as frameFault};
+ghost use Rattle.frames.specs.declared.fault.BlockFault.TheVariants.{Frame as frame_fault};
 
 // The layer at which a cause was found.
 #[derive(Clone, Copy)]
@@ -92,7 +92,7 @@ impl BlockFault {
 }
 
 impl From<FrameFault> for BlockFault {
-    ghost from_gives = { λ fault r. r ≡ frameFault fault };
+    ghost from_gives = { λ fault r. r ≡ frame_fault fault };
 
     fn from(fault: FrameFault) -> BlockFault {
         BlockFault::Frame(fault)

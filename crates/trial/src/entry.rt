@@ -1,7 +1,7 @@
 // One entry of a script, played.
 ghost use Rattle.std.specs.Prelude.{◌≡◌};
 ghost use Rattle.pair.specs.Pairs.{deed_seen, fate_seen};
-ghost use Rattle.script.specs.Orders.{order_seen, entry_seen, fate_seen as goingSeen};
+ghost use Rattle.script.specs.Orders.{order_seen, entry_seen, fate_seen as going_seen};
 ghost use Rattle.trial.specs.Benches.{deed_of, act_of};
 ghost use Rattle.trial.specs.Rows.{without_check};
 
@@ -12,7 +12,7 @@ use script::{Entry, Going, Order};
 static NOISE: [u8; 3] = [0, 0, 0];
 
 fn fate_of(going: Going) -> Fate
-    ensures { fate_seen result ≡ goingSeen going }
+    ensures { fate_seen result ≡ going_seen going }
 {
     match going {
         Going::Whole => Fate::Whole,

@@ -1,7 +1,7 @@
 // A call, kept.
 ghost use Rattle.std.specs.Prelude.{◌≡◌, take};
 ghost use Rattle.pair.specs.Answers.{size_in};
-ghost use Rattle.pair.specs.Records.{blank as blankBytes, step_seen, Kept};
+ghost use Rattle.pair.specs.Records.{blank as blank_bytes, step_seen, Kept};
 
 use super::Record;
 use crate::call::Step;
@@ -13,7 +13,7 @@ use buffers::ANSWER_ROOM;
 impl Record {
     // A buffer of zeros, and no answer yet.
     fn blank() -> Record
-        ensures { result.bytes ≡ blankBytes }
+        ensures { result.bytes ≡ blank_bytes }
     {
         Record {
             answer: Answer {

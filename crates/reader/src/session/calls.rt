@@ -1,6 +1,6 @@
 // The calls of a session.
 ghost use Rattle.std.specs.Prelude.{[]};
-ghost use Rattle.protocol.specs.Reader.{ask as asks, start as starts, begin as begins, heard as hears, silent as hearsNothing, give_up as givesUp, close as closes};
+ghost use Rattle.protocol.specs.Reader.{ask as asks, start as starts, begin as begins, heard as hears, silent as hears_nothing, give_up as gives_up, close as closes};
 ghost use Rattle.stages.specs.Calls.{Does, Turns};
 ghost use Rattle.reader.specs.Sessions.{session_seen, settings_of, after_call};
 
@@ -103,7 +103,7 @@ impl Session {
 
     // Nothing was heard for as long as the reader had to listen.
     pub fn silent<'a>(&mut self, out: &mut [u8]) -> Outcome<'a>
-        ensures { Does (settings_of self.old) (session_seen self.old) hearsNothing (after_call self.new result out.new) out.old out.new }
+        ensures { Does (settings_of self.old) (session_seen self.old) hears_nothing (after_call self.new result out.new) out.old out.new }
     {
         match take(self) {
             Session::Asking(stage) => {
@@ -130,7 +130,7 @@ impl Session {
 
     // The host gives an exchange up.
     pub fn give_up<'a>(&mut self) -> Outcome<'a>
-        ensures { Turns (settings_of self.old) (session_seen self.old) givesUp (after_call self.new result []) }
+        ensures { Turns (settings_of self.old) (session_seen self.old) gives_up (after_call self.new result []) }
     {
         match take(self) {
             Session::Busy(stage) => {

@@ -3,7 +3,7 @@ ghost use Rattle.std.specs.Prelude.{◌≡◌, ◌≤◌, true, false, length};
 ghost use Rattle.frames.specs.Sizes.{greatest_frame};
 ghost use Rattle.frames.specs.Views.{cid_seen, agreement};
 ghost use Rattle.frames.specs.Writing.{cid_in_range};
-ghost use Rattle.protocol.specs.Reader.{close as closes, heard as hears, silent as hearsNothing, on_deselect, agreed_of};
+ghost use Rattle.protocol.specs.Reader.{close as closes, heard as hears, silent as hears_nothing, on_deselect, agreed_of};
 ghost use Rattle.stages.specs.Calls.{Does, Hears, Makes};
 ghost use Rattle.exchange.specs.Listening.{event_seen};
 ghost use Rattle.stages.specs.Results.{closed_woken, closed_failed, closed_idle, closed_ended, heard_deselect};
@@ -103,7 +103,7 @@ impl Closing {
 
     // Nothing was heard for as long as the reader had to listen.
     pub fn silent<'a>(self, out: &mut [u8]) -> (AfterDeselect, Outcome<'a>)
-        ensures { Does (setup_seen self.setup) (closing_seen self) hearsNothing (heard_deselect result out.new) out.old out.new }
+        ensures { Does (setup_seen self.setup) (closing_seen self) hears_nothing (heard_deselect result out.new) out.old out.new }
     {
         self.listen(None, out)
     }

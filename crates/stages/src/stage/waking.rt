@@ -6,7 +6,7 @@ ghost use Rattle.activation.specs.Views.{said_by};
 ghost use Rattle.exchange.specs.Listening.{event_seen};
 ghost use Rattle.frames.specs.Faults.{cause_seen};
 ghost use Rattle.frames.specs.Sizes.{greatest_frame};
-ghost use Rattle.protocol.specs.Reader.{ask as asks, start as starts, heard as hears, silent as hearsNothing, on_ats};
+ghost use Rattle.protocol.specs.Reader.{ask as asks, start as starts, heard as hears, silent as hears_nothing, on_ats};
 ghost use Rattle.stages.specs.Calls.{Does, Turns, Hears, Makes};
 ghost use Rattle.stages.specs.Results.{asked, heard_rats, started, made, making};
 ghost use Rattle.stages.specs.Setups.{wished, setup_seen, all_least};
@@ -80,7 +80,7 @@ impl Asking {
 
     // Nothing was heard for as long as the reader had to listen.
     pub fn silent<'a>(self, out: &mut [u8]) -> (AfterRats, Outcome<'a>)
-        ensures { Does (setup_seen self.setup) (asking_seen self) hearsNothing (heard_rats result out.new) out.old out.new }
+        ensures { Does (setup_seen self.setup) (asking_seen self) hears_nothing (heard_rats result out.new) out.old out.new }
     {
         self.listen(None, out)
     }

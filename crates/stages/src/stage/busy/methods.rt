@@ -3,7 +3,7 @@ ghost use Rattle.std.specs.Prelude.{◌≡◌};
 ghost use Rattle.exchange.specs.Links.{link_seen};
 ghost use Rattle.exchange.specs.Listening.{event_seen};
 ghost use Rattle.exchange.specs.Views.{says_seen};
-ghost use Rattle.protocol.specs.Reader.{begin as begins, heard as hears, silent as hearsNothing, give_up as givesUp, says as says_in};
+ghost use Rattle.protocol.specs.Reader.{begin as begins, heard as hears, silent as hears_nothing, give_up as gives_up, says as says_in};
 ghost use Rattle.stages.specs.Calls.{Does, Hears, Turns};
 ghost use Rattle.stages.specs.Fetches.{Fetches};
 ghost use Rattle.stages.specs.Results.{began, heard_block, gave_up};
@@ -44,7 +44,7 @@ impl Busy {
 
     // Nothing was heard for as long as the reader had to listen.
     pub fn silent<'a>(self, out: &mut [u8]) -> (AfterBlock, Outcome<'a>)
-        ensures { Does (setup_seen self.setup) (busy_seen self) hearsNothing (heard_block result out.new) out.old out.new }
+        ensures { Does (setup_seen self.setup) (busy_seen self) hears_nothing (heard_block result out.new) out.old out.new }
     {
         self.listen(None, out)
     }
@@ -78,7 +78,7 @@ impl Busy {
 
     // The host gives the exchange up.
     pub fn give_up(self) -> (Ended, Report)
-        ensures { Turns (setup_seen self.setup) (busy_seen self) givesUp (gave_up result) }
+        ensures { Turns (setup_seen self.setup) (busy_seen self) gives_up (gave_up result) }
     {
         let report = self.exchange.report();
         let stage = Ended {
