@@ -35,6 +35,8 @@ def respelled(text, apart, table):
 
 def main():
     top = sys.argv[1] if len(sys.argv) > 1 else os.path.dirname(HERE)
+    if os.path.exists(os.path.join(top, "docs", "PORT.md")):
+        sys.exit("respell: this tree has been turned already, and some new names are old names of others: nothing was written")
     table, changed = names(), 0
     for folder, dirs, files in os.walk(os.path.join(top, "crates")):
         dirs[:] = [d for d in dirs if d != "out"]
