@@ -1,4 +1,4 @@
-// ATS, the answer to select: the card tells the reader what it can do.
+//! ATS, the answer to select: the card tells the reader what it can do.
 ghost use Rattle.std.specs.Prelude.{◌≡◌, ◌≤◌, true, length, IfOk};
 ghost use Rattle.activation.specs.Ats.{announced, length_byte_good, t0_good, judged, read_interface, read_format, read_ats, hear_ats, byte_or, behind};
 ghost use Rattle.activation.specs.Laws.{ValidAts};
@@ -9,22 +9,22 @@ use super::fault::ActivationFault;
 use super::sizes::GREATEST_CODE;
 use frames::unseal;
 
-// The check's bytes, which TL does not count.
+/// The check's bytes, which TL does not count.
 const CHECK: usize = 2;
 
-// Bits of T0: TA, TB and TC follow.
+/// Bits of T0: TA, TB and TC follow.
 const TA: u8 = 0x10;
 
 const TB: u8 = 0x20;
 
 const TC: u8 = 0x40;
 
-// Bits that are 0 in T0 and in TA.
+/// Bits that are 0 in T0 and in TA.
 const T0_ZERO: u8 = 0x80;
 
 const TA_ZERO: u8 = 0x08;
 
-// What holds where a byte is absent: frame size code 2, divisor 1, waiting time 4 and guard time 0, card numbers.
+/// What holds where a byte is absent: frame size code 2, divisor 1, waiting time 4 and guard time 0, card numbers.
 const NO_T0: u8 = 0x02;
 
 const NO_TA: u8 = 0x00;
@@ -33,17 +33,17 @@ const NO_TB: u8 = 0x40;
 
 const NO_TC: u8 = 0x02;
 
-// The codes of times are below this.
+/// The codes of times are below this.
 const TIMES: u8 = 15;
 
-// TC has two bits.
+/// TC has two bits.
 const TC_VALUES: u8 = 4;
 
-// The place of TA, or of the byte that stands for it, TL being 1.
+/// The place of TA, or of the byte that stands for it, TL being 1.
 const BEHIND_T0: usize = 3;
 
-// What an ATS says: the code of the card's frame size, the divisors offered, the codes of the waiting time and the guard
-// time, what else is supported, and the historical bytes, as a part of what was heard.
+/// What an ATS says: the code of the card's frame size, the divisors offered, the codes of the waiting time and the guard
+/// time, what else is supported, and the historical bytes, as a part of what was heard.
 #[derive(Clone, Copy)]
 pub struct Ats<'a> {
     pub fsci: u8,
@@ -55,7 +55,7 @@ pub struct Ats<'a> {
 }
 
 impl Ats<'_> {
-    // No value is reserved.
+    /// No value is reserved.
     pub fn is_valid(self) -> bool
         ensures { result ≡ ats_valid (said_by self.entry) }
     {
@@ -67,7 +67,7 @@ impl Ats<'_> {
     }
 }
 
-// How many bytes T0 announces.
+/// How many bytes T0 announces.
 fn announced(t0: u8) -> usize
     ensures { result ≡ announced t0 }
 {
@@ -84,7 +84,7 @@ fn announced(t0: u8) -> usize
     n
 }
 
-// The byte that stands first if it is there, else what holds without it, and the bytes behind.
+/// The byte that stands first if it is there, else what holds without it, and the bytes behind.
 fn next_byte(there: bool, absent: u8, rest: &[u8]) -> (u8, &[u8])
     requires { there ≡ true → 1 ≤ length rest.now }
     ensures byte { result.0 ≡ byte_or there absent rest.now }
@@ -96,7 +96,7 @@ fn next_byte(there: bool, absent: u8, rest: &[u8]) -> (u8, &[u8])
     }
 }
 
-// TA, TB and TC are judged in their order.
+/// TA, TB and TC are judged in their order.
 fn judged<'a>(
     t0: u8,
     ta: u8,
@@ -133,7 +133,7 @@ fn judged<'a>(
     })
 }
 
-// TA, TB and TC as T0 announces them, then the historical bytes.
+/// TA, TB and TC as T0 announces them, then the historical bytes.
 fn interface_bytes(t0: u8, rest: &[u8]) -> Result<Ats<'_>, ActivationFault>
     requires { announced t0 ≤ length rest.now }
     ensures { ats_seen result ≡ read_interface t0 rest.now }
@@ -144,14 +144,14 @@ fn interface_bytes(t0: u8, rest: &[u8]) -> Result<Ats<'_>, ActivationFault>
     judged(t0, ta, tb, tc, historical)
 }
 
-// T0's reserved bit is 0, and the code of the frame size is not reserved.
+/// T0's reserved bit is 0, and the code of the frame size is not reserved.
 fn t0_good(t0: u8) -> bool
     ensures { result ≡ t0_good t0 }
 {
     t0 & T0_ZERO == 0 && t0 % 16 <= GREATEST_CODE
 }
 
-// What stands behind TL: nothing, or T0 and what it announces.
+/// What stands behind TL: nothing, or T0 and what it announces.
 fn format_of(format: &[u8]) -> Result<Ats<'_>, ActivationFault>
     ensures { ats_seen result ≡ read_format format.now }
 {
@@ -167,7 +167,7 @@ fn format_of(format: &[u8]) -> Result<Ats<'_>, ActivationFault>
     interface_bytes(*t0, rest)
 }
 
-// TL is 1 to what the reader's frame holds, and counts the bytes heard.
+/// TL is 1 to what the reader's frame holds, and counts the bytes heard.
 fn length_byte_good(fsd: usize, tl: u8, heard: usize) -> bool
     ensures { result ≡ length_byte_good fsd tl heard }
 {
@@ -175,7 +175,7 @@ fn length_byte_good(fsd: usize, tl: u8, heard: usize) -> bool
     0 < tl && tl <= fsd.saturating_sub(CHECK) && tl == heard
 }
 
-// A body as an ATS, at a reader of this frame size.
+/// A body as an ATS, at a reader of this frame size.
 pub fn ats_of(body: &[u8], fsd: usize) -> Result<Ats<'_>, ActivationFault>
     ensures read { ats_seen result ≡ read_ats fsd body.now }
     ensures valid { IfOk result (λ a. ValidAts (said_by a)) }
@@ -186,7 +186,7 @@ pub fn ats_of(body: &[u8], fsd: usize) -> Result<Ats<'_>, ActivationFault>
     }
 }
 
-// A frame as an ATS, at a reader of this frame size.
+/// A frame as an ATS, at a reader of this frame size.
 pub fn hear_ats(frame: &[u8], fsd: usize) -> Result<Ats<'_>, ActivationFault>
     ensures read { ats_seen result ≡ hear_ats fsd frame.now }
     ensures valid { IfOk result (λ a. ValidAts (said_by a)) }

@@ -1,4 +1,4 @@
-// Writing an ATS, with TA, TB and TC all there.
+//! Writing an ATS, with TA, TB and TC all there.
 ghost use Rattle.std.specs.Prelude.{◌≡◌, ◌+◌, ◌≤◌, true, length};
 ghost use Rattle.buffers.specs.Over.{over};
 ghost use Rattle.frames.specs.Sealing.{written};
@@ -11,13 +11,13 @@ use super::answer::Ats;
 use buffers::put;
 use frames::{GREATEST_FRAME, LONGEST_BODY, Refusal, seal};
 
-// TL, T0, TA, TB and TC.
+/// TL, T0, TA, TB and TC.
 const HEAD: usize = 5;
 
-// T0 announces TA, TB and TC.
+/// T0 announces TA, TB and TC.
 const T0: u8 = 0x70;
 
-// What stands before the historical bytes.
+/// What stands before the historical bytes.
 fn head_of(ats: Ats<'_>) -> [u8; HEAD]
     requires valid { ats_valid (said_by ats) ≡ true }
     requires counted { 5 + length ats.historical.now ≤ longest_body }
@@ -33,7 +33,7 @@ fn head_of(ats: Ats<'_>) -> [u8; HEAD]
     ]
 }
 
-// Puts the bytes of an ATS at the front of `out`, and answers how many these are.
+/// Puts the bytes of an ATS at the front of `out`, and answers how many these are.
 fn put_ats(ats: Ats<'_>, out: &mut [u8]) -> usize
     requires valid { ats_valid (said_by ats) ≡ true }
     requires counted { 5 + length ats.historical.now ≤ longest_body }
@@ -46,7 +46,7 @@ fn put_ats(ats: Ats<'_>, out: &mut [u8]) -> usize
     HEAD + ats.historical.len()
 }
 
-// Writes the frame of an ATS to the front of `out`, and answers its length.
+/// Writes the frame of an ATS to the front of `out`, and answers its length.
 pub fn write_ats(ats: Ats<'_>, out: &mut [u8]) -> Result<usize, Refusal>
     ensures value { result ≡ ats_writing (said_by ats.entry) (length out.old) }
     ensures bytes { out.new ≡ written result (ats_frame (said_by ats.entry)) out.old }

@@ -1,4 +1,4 @@
-// Why what was heard is no ATS, or no response to a PPS.
+//! Why what was heard is no ATS, or no response to a PPS.
 ghost use Rattle.std.specs.Prelude.{◌≡◌};
 ghost use Rattle.frames.specs.Causes.{cause, activation};
 ghost use Rattle.frames.specs.Faults.{cause_seen};
@@ -9,17 +9,17 @@ use frames::{Cause, FrameFault, Layer};
 
 #[derive(Clone, Copy)]
 pub enum ActivationFault {
-    // it is no frame
+    /// it is no frame
     Frame(FrameFault),
-    // it is no response to the PPS
+    /// it is no response to the PPS
     Response,
-    // TL is 0, above what the reader's frame holds, unlike the bytes heard, or short of what T0 announces
+    /// TL is 0, above what the reader's frame holds, unlike the bytes heard, or short of what T0 announces
     LengthByte,
-    // a reserved value in the byte at this place, TL being 1
+    /// a reserved value in the byte at this place, TL being 1
     Reserved { place: usize },
 }
 
-// A cause of the layer of activation.
+/// A cause of the layer of activation.
 fn of_activation(number: u8, place: usize) -> Cause
     ensures { cause_seen result ≡ cause number place activation }
 {

@@ -1,4 +1,4 @@
-// RATS, ATS and PPS: the formats by which a reader wakes a card.
+//! RATS, ATS and PPS: the formats by which a reader wakes a card.
 #![tactic(auto)]
 
 mod answer;

@@ -1,4 +1,4 @@
-// RATS, the request for an answer to select: the reader tells the card its frame size, and gives it a number.
+//! RATS, the request for an answer to select: the reader tells the card its frame size, and gives it a number.
 ghost use Rattle.std.specs.Prelude.{◌≡◌, length, IfSome};
 ghost use Rattle.frames.specs.Sealing.{written};
 ghost use Rattle.activation.specs.Rats.{read_rats};
@@ -10,13 +10,13 @@ ghost use Rattle.activation.specs.Writing.{rats_valid, rats_writing, rats_frame}
 use super::sizes::GREATEST_CODE;
 use frames::{Refusal, seal, unseal};
 
-// The byte that a RATS begins with.
+/// The byte that a RATS begins with.
 const START: u8 = 0xE0;
 
-// Card numbers are below this one.
+/// Card numbers are below this one.
 pub const CARD_NUMBERS: u8 = 15;
 
-// The code of the reader's frame size, and the card's number.
+/// The code of the reader's frame size, and the card's number.
 #[derive(Clone, Copy)]
 pub struct Rats {
     pub fsdi: u8,
@@ -24,7 +24,7 @@ pub struct Rats {
 }
 
 impl Rats {
-    // Neither the code nor the number is reserved.
+    /// Neither the code nor the number is reserved.
     fn is_valid(self) -> bool
         ensures { result ≡ rats_valid self }
     {
@@ -32,7 +32,7 @@ impl Rats {
     }
 }
 
-// A body as a RATS without reserved values.
+/// A body as a RATS without reserved values.
 pub fn rats_of(body: &[u8]) -> Option<Rats>
     ensures read { rats_seen result ≡ read_rats body.now }
     ensures valid { IfSome result RatsInRange }
@@ -47,7 +47,7 @@ pub fn rats_of(body: &[u8]) -> Option<Rats>
     if rats.is_valid() { Some(rats) } else { None }
 }
 
-// A frame as a RATS, at a card of this frame size.
+/// A frame as a RATS, at a card of this frame size.
 pub fn read_rats(frame: &[u8], limit: usize) -> Option<Rats>
     ensures read { rats_seen result ≡ hear_rats limit frame.now }
     ensures valid { IfSome result RatsInRange }
@@ -58,7 +58,7 @@ pub fn read_rats(frame: &[u8], limit: usize) -> Option<Rats>
     }
 }
 
-// Writes the frame of a RATS to the front of `out`, and answers its length.
+/// Writes the frame of a RATS to the front of `out`, and answers its length.
 pub fn write_rats(rats: Rats, out: &mut [u8]) -> Result<usize, Refusal>
     ensures value { result ≡ rats_writing rats (length out.old) }
     ensures bytes { out.new ≡ written result (rats_frame rats) out.old }

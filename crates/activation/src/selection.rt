@@ -1,4 +1,4 @@
-// PPS, the selection of protocol and parameters: the reader chooses a divisor for each direction.
+//! PPS, the selection of protocol and parameters: the reader chooses a divisor for each direction.
 ghost use Rattle.std.specs.Prelude.{◌≡◌, ◌+◌, ◌≤◌, length, IfSome, ◌==◌};
 ghost use Rattle.frames.specs.Sealing.{written};
 ghost use Rattle.activation.specs.Pps.{read_pps, offers, offered};
@@ -11,23 +11,23 @@ use super::fault::ActivationFault;
 use super::request::CARD_NUMBERS;
 use frames::{Refusal, seal, unseal};
 
-// A PPS and its response begin with this and the card number.
+/// A PPS and its response begin with this and the card number.
 const START: u8 = 0xD0;
 
-// The second byte: the third has the codes.
+/// The second byte: the third has the codes.
 const CODES_FOLLOW: u8 = 0x11;
 
-// The codes of the divisors 1, 2, 4 and 8 are below this.
+/// The codes of the divisors 1, 2, 4 and 8 are below this.
 const RATES: u8 = 4;
 
-// TA's bits: divisor 2 from the card, divisor 2 to it, and only the same for both.
+/// TA's bits: divisor 2 from the card, divisor 2 to it, and only the same for both.
 const FROM_CARD: u8 = 0x10;
 
 const TO_CARD: u8 = 0x01;
 
 const SAME: u8 = 0x80;
 
-// The card's number, and the codes of the divisors from the card and to it.
+/// The card's number, and the codes of the divisors from the card and to it.
 #[derive(Clone, Copy)]
 pub struct Pps {
     pub cid: u8,
@@ -36,7 +36,7 @@ pub struct Pps {
 }
 
 impl Pps {
-    // The number is not reserved, and the codes are those of divisors.
+    /// The number is not reserved, and the codes are those of divisors.
     fn is_valid(self) -> bool
         ensures { result ≡ pps_valid self }
     {
@@ -44,14 +44,14 @@ impl Pps {
     }
 }
 
-// A byte begins a PPS, or the response to it, for the card of this number.
+/// A byte begins a PPS, or the response to it, for the card of this number.
 fn begins(start: u8, cid: u8) -> bool
     ensures { result ≡ (start == 0xD0 + cid) }
 {
     u16::from(start) == u16::from(START) + u16::from(cid)
 }
 
-// A body as a PPS for the card of this number.
+/// A body as a PPS for the card of this number.
 pub fn pps_of(body: &[u8], cid: u8) -> Option<Pps>
     ensures read { pps_seen result ≡ read_pps cid body.now }
     ensures valid { IfSome result (PpsFor cid) }
@@ -68,7 +68,7 @@ pub fn pps_of(body: &[u8], cid: u8) -> Option<Pps>
     }
 }
 
-// A frame as a PPS, at the card of this frame size and number.
+/// A frame as a PPS, at the card of this frame size and number.
 pub fn read_pps(frame: &[u8], limit: usize, cid: u8) -> Option<Pps>
     ensures read { pps_seen result ≡ hear_pps limit cid frame.now }
     ensures valid { IfSome result (PpsFor cid) }
@@ -79,7 +79,7 @@ pub fn read_pps(frame: &[u8], limit: usize, cid: u8) -> Option<Pps>
     }
 }
 
-// Writes the frame of a PPS to the front of `out`, and answers its length.
+/// Writes the frame of a PPS to the front of `out`, and answers its length.
 pub fn write_pps(pps: Pps, out: &mut [u8]) -> Result<usize, Refusal>
     ensures value { result ≡ pps_writing pps (length out.old) }
     ensures bytes { out.new ≡ written result (pps_frame pps) out.old }
@@ -93,7 +93,7 @@ pub fn write_pps(pps: Pps, out: &mut [u8]) -> Result<usize, Refusal>
     )
 }
 
-// Writes the frame of the response to a PPS to the front of `out`, and answers its length.
+/// Writes the frame of the response to a PPS to the front of `out`, and answers its length.
 pub fn write_pps_answer(cid: u8, out: &mut [u8]) -> Result<usize, Refusal>
     ensures value { result ≡ pps_answer_writing cid (length out.old) }
     ensures bytes { out.new ≡ written result (pps_answer_frame cid) out.old }
@@ -104,7 +104,7 @@ pub fn write_pps_answer(cid: u8, out: &mut [u8]) -> Result<usize, Refusal>
     seal(&[START + cid], out)
 }
 
-// A frame as the response to a PPS, at a reader of this frame size.
+/// A frame as the response to a PPS, at a reader of this frame size.
 pub fn hear_pps_answer(frame: &[u8], fsd: usize, cid: u8) -> Result<(), ActivationFault>
     ensures { pps_answer_seen result ≡ hear_pps_answer fsd cid frame.now }
 {
@@ -114,7 +114,7 @@ pub fn hear_pps_answer(frame: &[u8], fsd: usize, cid: u8) -> Result<(), Activati
     }
 }
 
-// TA offers the divisor of this code in the direction whose lowest bit has this weight.
+/// TA offers the divisor of this code in the direction whose lowest bit has this weight.
 fn offers(ta: u8, weight: u8, code: u8) -> bool
     requires { weight ≤ 63 }
     ensures { result ≡ offers ta weight code }
@@ -128,7 +128,7 @@ fn offers(ta: u8, weight: u8, code: u8) -> bool
     }
 }
 
-// TA offers this pair of codes, from the card and to it.
+/// TA offers this pair of codes, from the card and to it.
 pub fn offered(ta: u8, dsi: u8, dri: u8) -> bool
     ensures { result ≡ offered ta dsi dri }
 {

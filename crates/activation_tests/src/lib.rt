@@ -1,4 +1,4 @@
-// Frames of RATS, ATS and PPS as they are on the air.
+//! Frames of RATS, ATS and PPS as they are on the air.
 #![tactic(auto)]
 
 #[cfg(test)]
@@ -7,7 +7,7 @@ mod tests {
     use frames::{Cause, GREATEST_FRAME, Layer, Refusal};
     use std::test::Fail;
 
-    // The frame was written to the front of the buffer, and its length answered.
+    /// The frame was written to the front of the buffer, and its length answered.
     fn wrote(res: Result<usize, Refusal>, out: &[u8], frame: &[u8]) -> bool {
         match res {
             Ok(n) => n == frame.len() && out.starts_with(frame),
@@ -15,7 +15,7 @@ mod tests {
         }
     }
 
-    // A cause of activation.
+    /// A cause of activation.
     fn is_cause(cause: Cause, number: u8, place: usize) -> bool {
         match cause.layer {
             Layer::Activation => cause.number == number && cause.place == place,
@@ -23,7 +23,7 @@ mod tests {
         }
     }
 
-    // The frame is refused as an ATS, by this cause of activation.
+    /// The frame is refused as an ATS, by this cause of activation.
     fn fails(frame: &[u8], number: u8, place: usize) -> bool {
         match hear_ats(frame, GREATEST_FRAME) {
             Ok(_) => false,

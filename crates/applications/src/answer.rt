@@ -1,4 +1,4 @@
-// Answers: some bytes, and a status word behind them.
+//! Answers: some bytes, and a status word behind them.
 ghost use Rattle.std.specs.Prelude.{◌≡◌, ◌+◌, ◌≤◌, ◌++◌, length};
 ghost use Rattle.applications.specs.App.{longest_answer};
 ghost use Rattle.buffers.specs.Over.{over};
@@ -8,7 +8,7 @@ use crate::application::LONGEST_ANSWER;
 use crate::status::StatusWord;
 use buffers::put;
 
-// Puts an answer at the front of `answer`: `bytes` and the status word. Returns how long it is.
+/// Puts an answer at the front of `answer`: `bytes` and the status word. Returns how long it is.
 pub(crate) fn put_answer(
     answer: &mut [u8; LONGEST_ANSWER],
     bytes: &[u8],

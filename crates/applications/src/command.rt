@@ -1,10 +1,10 @@
-// Commands, as every application takes them apart.
+//! Commands, as every application takes them apart.
 ghost use Rattle.std.specs.Prelude.{◌≡◌};
 ghost use Rattle.applications.specs.Command.{judged, head_faults, parts_of, as_parts};
 
 use crate::status::StatusWord;
 
-// A command of the application's class: what stands behind the class byte.
+/// A command of the application's class: what stands behind the class byte.
 #[derive(Clone, Copy)]
 pub struct Command<'a> {
     pub instruction: u8,
@@ -14,7 +14,7 @@ pub struct Command<'a> {
 }
 
 impl<'a> Command<'a> {
-    // Takes a command apart, unless it is too short or of another class.
+    /// Takes a command apart, unless it is too short or of another class.
     pub(crate) fn of_class(class: u8, bytes: &'a [u8]) -> Result<Command<'a>, StatusWord>
         ensures { as_parts result ≡ judged (head_faults class bytes.now) (parts_of bytes.now) }
     {

@@ -1,4 +1,4 @@
-// What runs on a card above the protocol: the interface, and two applications.
+//! What runs on a card above the protocol: the interface, and two applications.
 #![tactic(auto)]
 
 mod answer;

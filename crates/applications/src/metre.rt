@@ -1,4 +1,4 @@
-// The metre counter: a count of metres that draws take from.
+//! The metre counter: a count of metres that draws take from.
 ghost use Rattle.std.specs.Prelude.{◌≡◌};
 ghost use Rattle.applications.specs.Bounds.{keeps_doing};
 ghost use Rattle.applications.specs.Metre.{metre, counting, remaining, draw_status, done, request_of};
@@ -11,7 +11,7 @@ use request::Request;
 
 mod request;
 
-// The multiplier of the wait before a draw's answer.
+/// The multiplier of the wait before a draw's answer.
 const DRAW_MULTIPLIER: u8 = 2;
 
 #[derive(Drop)]
@@ -20,21 +20,21 @@ pub struct Metre {
 }
 
 impl Metre {
-    // A counter with this many metres to draw.
+    /// A counter with this many metres to draw.
     pub fn new(count: u32) -> Metre
         ensures { result ≡ counting count }
     {
         Metre { count }
     }
 
-    // The metres that are left.
+    /// The metres that are left.
     pub fn count(&self) -> u32
         ensures { result ≡ self.now.count }
     {
         self.count
     }
 
-    // Takes the metres from the count, unless there are too few.
+    /// Takes the metres from the count, unless there are too few.
     fn draw(&mut self, metres: u32) -> StatusWord
         ensures status { result ≡ draw_status self.old.count metres }
         ensures after { self.new ≡ counting (remaining self.old.count metres) }

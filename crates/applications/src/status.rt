@@ -1,4 +1,4 @@
-// Status words, the last two bytes of every answer.
+//! Status words, the last two bytes of every answer.
 ghost use Rattle.std.specs.Prelude.{◌≡◌};
 ghost use Rattle.applications.specs.Status.{word_of};
 
@@ -13,7 +13,7 @@ pub enum StatusWord {
 }
 
 impl StatusWord {
-    // The two bytes, as they stand in an answer.
+    /// The two bytes, as they stand in an answer.
     pub fn bytes(self) -> [u8; 2]
         ensures { result ≡ word_of self }
     {

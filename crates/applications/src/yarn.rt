@@ -1,11 +1,11 @@
-// The yarn record: 128 bytes that are read and written.
+//! The yarn record: 128 bytes that are read and written.
 ghost use Rattle.std.specs.Prelude.{◌≡◌, length};
 
 mod record;
 mod request;
 mod serving;
 
-// The number of bytes in the record.
+/// The number of bytes in the record.
 pub const RECORD_SIZE: usize = 128;
 
 #[derive(Drop)]

@@ -1,15 +1,15 @@
-// Commands, and how they are answered.
+//! Commands, and how they are answered.
 use applications::{Application, LONGEST_ANSWER};
 use std::process::Abort;
 use std::test::Fail;
 
-// A command and its answer.
+/// A command and its answer.
 pub struct Case(pub &'static [u8], pub &'static [u8]);
 
-// What lies in the buffer before an answer is put there.
+/// What lies in the buffer before an answer is put there.
 const UNTOUCHED: u8 = 0xee;
 
-// Gives the application a command and compares all that it does, the buffer behind the answer too.
+/// Gives the application a command and compares all that it does, the buffer behind the answer too.
 pub(crate) fn check_answer<A: Application>(
     rt: &impl Abort,
     app: &mut A,
@@ -32,7 +32,7 @@ pub(crate) fn check_answer<A: Application>(
     Ok(())
 }
 
-// The commands of a table one after the other, all with the same waits.
+/// The commands of a table one after the other, all with the same waits.
 pub(crate) fn check_table<A: Application>(
     rt: &impl Abort,
     app: &mut A,

@@ -1,4 +1,4 @@
-// The applications on tables of commands.
+//! The applications on tables of commands.
 #![tactic(auto)]
 
 #[cfg(test)]

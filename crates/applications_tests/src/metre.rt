@@ -1,9 +1,9 @@
-// The metre counter on tables of commands.
+//! The metre counter on tables of commands.
 use crate::cases::{Case, check_table};
 use applications::Metre;
 use std::test::Fail;
 
-// Every fault in the order of judgement, mostly with a later one beside it, and an ask.
+/// Every fault in the order of judgement, mostly with a later one beside it, and an ask.
 static FAULTS: [Case; 20] = [
     // under 4 bytes, before the class
     Case(b"", b"\x67\x00"),
@@ -33,7 +33,7 @@ static FAULTS: [Case; 20] = [
     Case(b"\x80\x12\x00\x00\x04", b"\x00\x00\x00\x64\x90\x00"),
 ];
 
-// Draws from a count of 100, each after one wait with multiplier 2.
+/// Draws from a count of 100, each after one wait with multiplier 2.
 static DRAWS: [Case; 7] = [
     // nothing
     Case(
@@ -70,10 +70,10 @@ static DRAWS: [Case; 7] = [
     ),
 ];
 
-// Asks when all is drawn.
+/// Asks when all is drawn.
 static EMPTY: [Case; 1] = [Case(b"\x80\x12\x00\x00\x04", b"\x00\x00\x00\x00\x90\x00")];
 
-// Counts with four bytes.
+/// Counts with four bytes.
 static HIGH: [Case; 3] = [
     Case(
         b"\x80\x10\x00\x00\x04\x01\x02\x03\x04",

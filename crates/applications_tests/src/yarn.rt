@@ -1,9 +1,9 @@
-// The yarn record on tables of commands.
+//! The yarn record on tables of commands.
 use crate::cases::{Case, check_answer, check_table};
 use applications::{RECORD_SIZE, Yarn};
 use std::test::Fail;
 
-// Every fault in the order of judgement, mostly with a later one beside it.
+/// Every fault in the order of judgement, mostly with a later one beside it.
 static FAULTS: [Case; 24] = [
     // under 4 bytes, before the class
     Case(b"", b"\x67\x00"),
@@ -37,7 +37,7 @@ static FAULTS: [Case; 24] = [
     Case(b"\x00\xd6\x01\x00\x01\xaa", b"\x6b\x00"),
 ];
 
-// Reads and writes of a record that is filled with 30.
+/// Reads and writes of a record that is filled with 30.
 static GOOD: [Case; 9] = [
     // first and last byte
     Case(b"\x00\xb0\x00\x00\x01", b"\x30\x90\x00"),
@@ -61,7 +61,7 @@ fn answers(rt: HostRuntime) -> Result<(), Fail> {
     check_table(&rt, &mut yarn, &GOOD, 0, 1)
 }
 
-// Writes as long as a command can be, and the whole record at once.
+/// Writes as long as a command can be, and the whole record at once.
 #[test]
 fn long_writes(rt: HostRuntime) -> Result<(), Fail> {
     let mut yarn = Yarn::new([0x31; RECORD_SIZE]);

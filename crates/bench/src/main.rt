@@ -1,4 +1,4 @@
-// Reads a script from standard input, plays it on a reader and a card, and prints a row for each call.
+//! Reads a script from standard input, plays it on a reader and a card, and prints a row for each call.
 #![tactic(auto)]
 
 use std::io;

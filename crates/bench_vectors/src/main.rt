@@ -1,4 +1,4 @@
-// Plays many scripts: each on standard input is ended by a line `--`, and so is what is printed for it.
+//! Plays many scripts: each on standard input is ended by a line `--`, and so is what is printed for it.
 #![tactic(auto)]
 
 use std::alloc::{AllocError, Global};

@@ -1,10 +1,10 @@
-// A store that gathers an answer.
+//! A store that gathers an answer.
 ghost use Rattle.std.specs.Prelude.{◌≡◌, ◌≤◌, length};
 ghost use Rattle.buffers.specs.Rooms.{answer_room};
 
 mod methods;
 
-// The longest answer.
+/// The longest answer.
 pub const ANSWER_ROOM: usize = 258;
 
 #[derive(Drop)]

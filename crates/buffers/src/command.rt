@@ -1,10 +1,10 @@
-// A store that gathers a command.
+//! A store that gathers a command.
 ghost use Rattle.std.specs.Prelude.{◌≡◌, ◌≤◌, length};
 ghost use Rattle.buffers.specs.Rooms.{command_room};
 
 mod methods;
 
-// The longest command.
+/// The longest command.
 pub const COMMAND_ROOM: usize = 261;
 
 #[derive(Drop)]

@@ -1,4 +1,4 @@
-// Buffers: bytes put into the caller's memory, and stores of a fixed size that gather bytes.
+//! Buffers: bytes put into the caller's memory, and stores of a fixed size that gather bytes.
 #![tactic(auto)]
 
 ghost use Rattle.std.specs.Prelude.{◌≡◌, ◌+◌, ◌≤◌, length};
@@ -10,7 +10,7 @@ mod command;
 pub use answer::{ANSWER_ROOM, AnswerStore};
 pub use command::{COMMAND_ROOM, CommandStore};
 
-// Copies `bytes` to the front of `part`, and changes no other byte of it.
+/// Copies `bytes` to the front of `part`, and changes no other byte of it.
 pub fn copy(part: &mut [u8], bytes: &[u8])
     requires { length bytes.now ≤ length part.old }
     ensures { part.new ≡ over bytes.now part.old }
@@ -18,7 +18,7 @@ pub fn copy(part: &mut [u8], bytes: &[u8])
     part[0..bytes.len()].copy_from_slice(bytes);
 }
 
-// Puts `bytes` into `out` at the offset `at`, and changes no other byte.
+/// Puts `bytes` into `out` at the offset `at`, and changes no other byte.
 pub fn put(out: &mut [u8], at: usize, bytes: &[u8])
     requires { at + length bytes.now ≤ length out.old }
     ensures { out.new ≡ over_at at bytes.now out.old }

@@ -1,4 +1,4 @@
-// The application's answer, as the card sends it in parts.
+//! The application's answer, as the card sends it in parts.
 ghost use Rattle.std.specs.Prelude.{◌≡◌, ◌≤◌, length};
 ghost use Rattle.applications.specs.App.{longest_answer};
 
@@ -6,7 +6,7 @@ use applications::LONGEST_ANSWER;
 
 mod methods;
 
-// The first `len` bytes are the answer.
+/// The first `len` bytes are the answer.
 #[derive(Drop)]
 pub struct Answer {
     bytes: [u8; LONGEST_ANSWER],

@@ -1,4 +1,4 @@
-// A card.
+//! A card.
 ghost use Rattle.std.specs.Prelude.{◌≡◌, true};
 ghost use Rattle.card.specs.FitTests.{fit_card};
 ghost use Rattle.card.specs.Held.{card_of, settings_good};
@@ -8,7 +8,7 @@ use crate::state::CardState;
 
 mod methods;
 
-// An application, the card's settings, and its stage.
+/// An application, the card's settings, and its stage.
 #[derive(Drop)]
 pub struct Card<A> {
     application: A,

@@ -1,4 +1,4 @@
-// The card's end of ISO/IEC 14443-4, Type A, from RATS to deselect, above any application.
+//! The card's end of ISO/IEC 14443-4, Type A, from RATS to deselect, above any application.
 #![tactic(auto)]
 
 mod answer;

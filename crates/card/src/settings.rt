@@ -1,4 +1,4 @@
-// What a card is set to.
+//! What a card is set to.
 ghost use Rattle.std.specs.Prelude.{◌≡◌, ◌≤◌, true, length, if◌then◌else◌, Some};
 ghost use Rattle.activation.specs.Ats.{ats_of};
 ghost use Rattle.buffers.specs.Over.{over};
@@ -12,20 +12,20 @@ ghost use Rattle.card.specs.Held.{settings_of, settings_good};
 use activation::{Ats, GREATEST_CODE, size_of_code, write_ats};
 use frames::Agreed;
 
-// The most historical bytes in the card's ATS.
+/// The most historical bytes in the card's ATS.
 pub const LONGEST_HISTORICAL: usize = 9;
 
-// The codes of times are below this.
+/// The codes of times are below this.
 const TIMES: u8 = 15;
 
-// The bit of TA that is 0.
+/// The bit of TA that is 0.
 const TA_ZERO: u8 = 0x08;
 
-// The bit of TC for card numbers.
+/// The bit of TC for card numbers.
 const CARD_NUMBERS: u8 = 0x02;
 
-// The code of the card's frame size, the codes of its waiting and guard time, the divisors that it offers, whether it
-// supports card numbers, and its historical bytes: the first `historical_len` of `historical`.
+/// The code of the card's frame size, the codes of its waiting and guard time, the divisors that it offers, whether it
+/// supports card numbers, and its historical bytes: the first `historical_len` of `historical`.
 #[derive(Clone, Copy, Drop)]
 pub struct CardSettings {
     pub fsci: u8,
@@ -38,7 +38,7 @@ pub struct CardSettings {
 }
 
 impl CardSettings {
-    // Every setting is in its range.
+    /// Every setting is in its range.
     pub fn is_valid(&self) -> bool
         ensures { result ≡ settings_good self.now }
     {
@@ -49,14 +49,14 @@ impl CardSettings {
             && self.ta & TA_ZERO == 0
     }
 
-    // The card's frame size.
+    /// The card's frame size.
     pub(crate) fn frame_size(&self) -> usize
         ensures { result ≡ size_of self.now.fsci }
     {
         size_of_code(self.fsci).unwrap_or(0)
     }
 
-    // Which blocks a card of this number takes.
+    /// Which blocks a card of this number takes.
     pub(crate) fn agreed(&self, number: u8) -> Agreed
         ensures { agreement result ≡ card_agreed (settings_of self.now) number }
     {
@@ -69,14 +69,14 @@ impl CardSettings {
         }
     }
 
-    // TC: card numbers are supported or not, node addresses never.
+    /// TC: card numbers are supported or not, node addresses never.
     fn tc(&self) -> u8
         ensures { result ≡ (if self.now.supports then 0x02 else 0x00) }
     {
         if self.supports { CARD_NUMBERS } else { 0 }
     }
 
-    // Writes the card's ATS, and answers the frame's length.
+    /// Writes the card's ATS, and answers the frame's length.
     pub(crate) fn write_ats(&self, out: &mut [u8]) -> Option<usize>
         requires range { settings_good self.now ≡ true }
         requires room { greatest_frame ≤ length out.old }

@@ -1,4 +1,4 @@
-// The stages of a card.
+//! The stages of a card.
 ghost use Rattle.std.specs.Prelude.{◌≡◌, ◌≤◌, true, length};
 ghost use Rattle.frames.specs.Check.{open_frame};
 ghost use Rattle.frames.specs.Sizes.{size_of, greatest_frame};
@@ -17,7 +17,7 @@ use applications::Application;
 use frames::Block;
 use std::mem;
 
-// Before RATS, awake, and after deselect.
+/// Before RATS, awake, and after deselect.
 #[derive(Drop)]
 pub enum CardState {
     Asleep,
@@ -26,7 +26,7 @@ pub enum CardState {
 }
 
 impl CardState {
-    // Every frame at every time.
+    /// Every frame at every time.
     pub fn take<A: Application>(
         &mut self,
         settings: &CardSettings,
@@ -51,7 +51,7 @@ impl CardState {
         }
     }
 
-    // A RATS wakes the card; any other frame leaves it asleep.
+    /// A RATS wakes the card; any other frame leaves it asleep.
     fn wake(&mut self, settings: &CardSettings, frame: &[u8]) -> Taken
         ensures told { tells (settings_of settings.now) (card_of self.new) (tt {0}) result ≡ told_of (on_rats (settings_of settings.now) (tt {0}) (rats_in (open_frame (size_of settings.now.fsci) frame.now))) }
         ensures fit { FitSends result.sends }
@@ -68,7 +68,7 @@ impl CardState {
         }
     }
 
-    // The number of an awake card.
+    /// The number of an awake card.
     fn cid(&self) -> u8
         ensures { result ≡ cid_held (card_of self.now) }
     {
@@ -79,7 +79,7 @@ impl CardState {
         }
     }
 
-    // The code of the divisor at which the card listens.
+    /// The code of the divisor at which the card listens.
     pub fn listens_at(&self) -> u8
         ensures { result ≡ hears_at (card_of self.now) }
     {
@@ -90,7 +90,7 @@ impl CardState {
         }
     }
 
-    // The code of the divisor at which the card sends.
+    /// The code of the divisor at which the card sends.
     pub fn sends_at(&self) -> u8
         ensures { result ≡ sends_at (card_of self.now) }
     {
@@ -101,7 +101,7 @@ impl CardState {
         }
     }
 
-    // Writes the last block of an awake card, if there is one, and answers its length.
+    /// Writes the last block of an awake card, if there is one, and answers its length.
     fn write_last(&self, out: &mut [u8]) -> Option<usize>
         requires fit { FitCard (card_of self.now) }
         requires room { greatest_frame ≤ length out.old }
@@ -115,7 +115,7 @@ impl CardState {
         }
     }
 
-    // Writes what the card sends, and answers its length.
+    /// Writes what the card sends, and answers its length.
     pub fn write_reply(
         &self,
         settings: &CardSettings,

@@ -1,23 +1,23 @@
-// What a card does at a frame.
+//! What a card does at a frame.
 ghost use Rattle.std.specs.Prelude.{◌≡◌, false, if◌then◌else◌};
 ghost use Rattle.card.specs.declared.taken.Sends.TheVariants.{Nothing, LastBlock};
 ghost use Rattle.card.specs.Told.{ends};
 
 use frames::CardNumber;
 
-// What the card sends back to a frame.
+/// What the card sends back to a frame.
 #[derive(Clone, Copy, Drop)]
 pub enum Sends {
     Nothing,
     Ats,
     PpsResponse,
-    // its last block, if there is one
+    /// its last block, if there is one
     LastBlock,
-    // the answer to a deselect, its last frame of all
+    /// the answer to a deselect, its last frame of all
     Deselect(Option<CardNumber>),
 }
 
-// Whether an awake card sends its last block, and whether its application was given a command.
+/// Whether an awake card sends its last block, and whether its application was given a command.
 #[derive(Clone, Copy, Drop)]
 pub struct Step {
     pub speaks: bool,
@@ -25,7 +25,7 @@ pub struct Step {
 }
 
 impl Step {
-    // A step in which the application has no part.
+    /// A step in which the application has no part.
     pub fn alone(speaks: bool) -> Step
         ensures speaks { result.speaks ≡ speaks }
         ensures given { result.given ≡ false }
@@ -37,7 +37,7 @@ impl Step {
     }
 }
 
-// What it sends, and whether its application was given a command.
+/// What it sends, and whether its application was given a command.
 #[derive(Clone, Copy, Drop)]
 pub struct Taken {
     pub sends: Sends,
@@ -45,7 +45,7 @@ pub struct Taken {
 }
 
 impl Taken {
-    // This is sent, and no command was given.
+    /// This is sent, and no command was given.
     pub fn sending(sends: Sends) -> Taken
         ensures sends { result.sends ≡ sends }
         ensures given { result.given ≡ false }
@@ -56,7 +56,7 @@ impl Taken {
         }
     }
 
-    // What a step of an awake card does.
+    /// What a step of an awake card does.
     pub fn of(step: Step) -> Taken
         ensures sends { result.sends ≡ (if step.speaks then LastBlock else Nothing) }
         ensures given { result.given ≡ step.given }
@@ -72,7 +72,7 @@ impl Taken {
         }
     }
 
-    // Behind it the card is silent for good.
+    /// Behind it the card is silent for good.
     pub fn is_last(&self) -> bool
         ensures { result ≡ ends self.now.sends }
     {

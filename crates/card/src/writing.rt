@@ -1,4 +1,4 @@
-// Writing what can be written.
+//! Writing what can be written.
 ghost use Rattle.std.specs.Prelude.{◌≡◌, ◌≤◌, length, Some};
 ghost use Rattle.buffers.specs.Over.{over};
 ghost use Rattle.frames.specs.Blocks.{frame_of};
@@ -8,7 +8,7 @@ ghost use Rattle.card.specs.Fit.{FitBlock};
 
 use frames::{Block, write_block};
 
-// Writes the frame of a block that can be written, and answers its length.
+/// Writes the frame of a block that can be written, and answers its length.
 pub fn write_fit(block: Block<'_>, out: &mut [u8]) -> Option<usize>
     requires fit { FitBlock (block_seen block) }
     requires room { greatest_frame ≤ length out.old }

@@ -1,14 +1,14 @@
-// How scenes are played.
+//! How scenes are played.
 use applications::{Application, Metre, Yarn};
 use card::{Card, CardSettings};
 use frames::{GREATEST_FRAME, seal};
 use std::process::Abort;
 use std::test::Fail;
 
-// What lies in the buffer before an answer is put there.
+/// What lies in the buffer before an answer is put there.
 const UNTOUCHED: u8 = 0xee;
 
-// How a frame is heard: whole, and the application is given a command or not; or with a spoilt byte.
+/// How a frame is heard: whole, and the application is given a command or not; or with a spoilt byte.
 #[derive(Clone, Copy)]
 pub enum Way {
     Gives,
@@ -16,10 +16,10 @@ pub enum Way {
     Spoilt,
 }
 
-// A frame to the card, and what it answers: both without check, no bytes for silence.
+/// A frame to the card, and what it answers: both without check, no bytes for silence.
 pub struct Turn(pub Way, pub &'static [u8], pub &'static [u8]);
 
-// FSC 32, FWI 4, SFGI 0, the divisors of `ta`, two historical bytes.
+/// FSC 32, FWI 4, SFGI 0, the divisors of `ta`, two historical bytes.
 pub fn settings(supports: bool, ta: u8) -> CardSettings {
     CardSettings {
         fsci: 2,
@@ -32,7 +32,7 @@ pub fn settings(supports: bool, ta: u8) -> CardSettings {
     }
 }
 
-// The card hears these bytes, and what it answers is compared, the buffer behind the answer too.
+/// The card hears these bytes, and what it answers is compared, the buffer behind the answer too.
 fn hears<A: Application>(
     rt: &impl Abort,
     card: &mut Card<A>,
@@ -60,12 +60,12 @@ fn hears<A: Application>(
     Ok(())
 }
 
-// Puts the frame of a body at the front of `out`, and answers its length; nothing for no bytes.
+/// Puts the frame of a body at the front of `out`, and answers its length; nothing for no bytes.
 fn sealed(body: &[u8], out: &mut [u8; GREATEST_FRAME]) -> usize {
     seal(body, out).unwrap_or(0)
 }
 
-// One frame to the card.
+/// One frame to the card.
 pub fn play_turn<A: Application>(
     rt: &impl Abort,
     card: &mut Card<A>,
@@ -91,7 +91,7 @@ pub fn play_turn<A: Application>(
     hears(rt, card, frame, reply, given)
 }
 
-// Frames one after the other.
+/// Frames one after the other.
 fn play<A: Application>(rt: &impl Abort, card: &mut Card<A>, turns: &[Turn]) -> Result<(), Fail> {
     for turn in turns {
         play_turn(rt, card, turn.0, turn.1, turn.2)?;
@@ -99,8 +99,8 @@ fn play<A: Application>(rt: &impl Abort, card: &mut Card<A>, turns: &[Turn]) -> 
     Ok(())
 }
 
-// A scene with a counter of 100 metres; behind it this many are left, and these are the codes of the divisors from the card
-// and to it.
+/// A scene with a counter of 100 metres; behind it this many are left, and these are the codes of the divisors from the card
+/// and to it.
 pub fn metre_scene(
     rt: &impl Abort,
     settings: CardSettings,
@@ -120,7 +120,7 @@ pub fn metre_scene(
     Ok(())
 }
 
-// A scene with a record full of 5A.
+/// A scene with a record full of 5A.
 pub fn yarn_scene(rt: &impl Abort, settings: CardSettings, turns: &[Turn]) -> Result<(), Fail> {
     let Ok(mut card) = Card::new(settings, Yarn::filled(0x5a)) else {
         return Err(Fail::new("refused"));

@@ -1,10 +1,10 @@
-// Scenes without errors: I-blocks, waits, deselect, chaining both ways. The reader's frame size is 16.
+//! Scenes without errors: I-blocks, waits, deselect, chaining both ways. The reader's frame size is 16.
 use crate::bench::{Turn, Way, metre_scene, play_turn, settings, yarn_scene};
 use applications::Yarn;
 use card::{Card, CardSettings};
 use std::test::Fail;
 
-// Two exchanges.
+/// Two exchanges.
 static EXCHANGE: [Turn; 3] = [
     Turn(Way::Tells, b"\xe0\x00", b"\x07\x72\x00\x40\x00\x48\x50"),
     Turn(
@@ -19,7 +19,7 @@ static EXCHANGE: [Turn; 3] = [
     ),
 ];
 
-// A draw of 30 metres asks for one wait.
+/// A draw of 30 metres asks for one wait.
 static WAIT: [Turn; 4] = [
     Turn(Way::Tells, b"\xe0\x00", b"\x07\x72\x00\x40\x00\x48\x50"),
     Turn(
@@ -35,7 +35,7 @@ static WAIT: [Turn; 4] = [
     ),
 ];
 
-// Behind deselect nothing is answered.
+/// Behind deselect nothing is answered.
 static DESELECT: [Turn; 7] = [
     Turn(Way::Tells, b"\xe0\x00", b"\x07\x72\x00\x40\x00\x48\x50"),
     Turn(
@@ -50,7 +50,7 @@ static DESELECT: [Turn; 7] = [
     Turn(Way::Tells, b"\xe0\x00", b""),
 ];
 
-// The reader chains.
+/// The reader chains.
 static READER_CHAINS: [Turn; 4] = [
     Turn(Way::Tells, b"\xe0\x00", b"\x07\x72\x00\x40\x00\x48\x50"),
     Turn(Way::Tells, b"\x12\x80\x12", b"\xa2"),
@@ -66,7 +66,7 @@ static READER_CHAINS: [Turn; 4] = [
     ),
 ];
 
-// The card chains: 16 bytes and a status word in parts of 13.
+/// The card chains: 16 bytes and a status word in parts of 13.
 static CARD_CHAINS: [Turn; 4] = [
     Turn(Way::Tells, b"\xe0\x00", b"\x07\x72\x00\x40\x00\x48\x50"),
     Turn(
@@ -103,7 +103,7 @@ fn card_chains(rt: HostRuntime) -> Result<(), Fail> {
     yarn_scene(&rt, settings(false, 0x00), &CARD_CHAINS)
 }
 
-// Past 261 bytes a block is ignored, and the card's number does not toggle.
+/// Past 261 bytes a block is ignored, and the card's number does not toggle.
 #[test]
 fn longest_command(rt: HostRuntime) -> Result<(), Fail> {
     let settings = CardSettings {

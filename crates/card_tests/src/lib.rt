@@ -1,4 +1,4 @@
-// The card on the bench: scenes played frame by frame.
+//! The card on the bench: scenes played frame by frame.
 #![tactic(auto)]
 
 #[cfg(test)]

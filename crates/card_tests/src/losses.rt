@@ -1,8 +1,8 @@
-// Scenes with lost and spoilt frames. A frame that was lost on its way to the card is not played.
+//! Scenes with lost and spoilt frames. A frame that was lost on its way to the card is not played.
 use crate::bench::{Turn, Way, metre_scene, settings, yarn_scene};
 use std::test::Fail;
 
-// The card has taken nothing: R(NAK) 0 is answered by R(ACK) 1.
+/// The card has taken nothing: R(NAK) 0 is answered by R(ACK) 1.
 static START: [Turn; 5] = [
     Turn(Way::Tells, b"\xe0\x00", b"\x07\x72\x00\x40\x00\x48\x50"),
     Turn(Way::Spoilt, b"\x02\x80\x12\x00\x00\x04", b""),
@@ -19,7 +19,7 @@ static START: [Turn; 5] = [
     ),
 ];
 
-// The second command did not arrive.
+/// The second command did not arrive.
 static COMMAND_LOST: [Turn; 6] = [
     Turn(Way::Tells, b"\xe0\x00", b"\x07\x72\x00\x40\x00\x48\x50"),
     Turn(
@@ -41,7 +41,7 @@ static COMMAND_LOST: [Turn; 6] = [
     ),
 ];
 
-// The answer did not arrive: it is sent again, and the application is not asked again.
+/// The answer did not arrive: it is sent again, and the application is not asked again.
 static ANSWER_LOST: [Turn; 5] = [
     Turn(Way::Tells, b"\xe0\x00", b"\x07\x72\x00\x40\x00\x48\x50"),
     Turn(
@@ -58,7 +58,7 @@ static ANSWER_LOST: [Turn; 5] = [
     ),
 ];
 
-// The request for a wait, its grant, and then the answer, did not arrive. Another multiplier, and a command, are not answered.
+/// The request for a wait, its grant, and then the answer, did not arrive. Another multiplier, and a command, are not answered.
 static WAIT_LOST: [Turn; 9] = [
     Turn(Way::Tells, b"\xe0\x00", b"\x07\x72\x00\x40\x00\x48\x50"),
     Turn(
@@ -75,7 +75,7 @@ static WAIT_LOST: [Turn; 9] = [
     Turn(Way::Tells, b"\xb2", b"\x02\x00\x00\x00\x46\x90\x00"),
 ];
 
-// The reader chains: its first part's R(ACK), and then its last part, did not arrive.
+/// The reader chains: its first part's R(ACK), and then its last part, did not arrive.
 static READER_CHAINS: [Turn; 5] = [
     Turn(Way::Tells, b"\xe0\x00", b"\x07\x72\x00\x40\x00\x48\x50"),
     Turn(Way::Tells, b"\x12\x80\x12", b"\xa2"),
@@ -88,8 +88,8 @@ static READER_CHAINS: [Turn; 5] = [
     ),
 ];
 
-// The card chains: its first part, the reader's R(ACK) and its last part did not arrive. With nothing owed R(ACK) of the
-// other number is not answered.
+/// The card chains: its first part, the reader's R(ACK) and its last part did not arrive. With nothing owed R(ACK) of the
+/// other number is not answered.
 static CARD_CHAINS: [Turn; 7] = [
     Turn(Way::Tells, b"\xe0\x00", b"\x07\x72\x00\x40\x00\x48\x50"),
     Turn(

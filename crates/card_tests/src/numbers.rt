@@ -1,8 +1,8 @@
-// Card numbers: none, 0 and 7, and power levels.
+//! Card numbers: none, 0 and 7, and power levels.
 use crate::bench::{Turn, Way, metre_scene, settings, yarn_scene};
 use std::test::Fail;
 
-// Without support, blocks with a number are ignored, whatever number RATS gave.
+/// Without support, blocks with a number are ignored, whatever number RATS gave.
 static NONE: [Turn; 4] = [
     Turn(Way::Tells, b"\xe0\x07", b"\x07\x72\x00\x40\x00\x48\x50"),
     Turn(Way::Tells, b"\x0a\x07\x80\x12\x00\x00\x04", b""),
@@ -14,7 +14,7 @@ static NONE: [Turn; 4] = [
     ),
 ];
 
-// With number 0, blocks with it and blocks without, each answered in its own way.
+/// With number 0, blocks with it and blocks without, each answered in its own way.
 static ZERO: [Turn; 6] = [
     Turn(Way::Tells, b"\xe0\x00", b"\x07\x72\x00\x40\x02\x48\x50"),
     Turn(
@@ -32,8 +32,8 @@ static ZERO: [Turn; 6] = [
     Turn(Way::Tells, b"\xca\x00", b"\xca\x00"),
 ];
 
-// With number 7, blocks of all power levels with it, answered with level 00. Without number, with another, a reserved one, or
-// a reserved bit: silence.
+/// With number 7, blocks of all power levels with it, answered with level 00. Without number, with another, a reserved one, or
+/// a reserved bit: silence.
 static SEVEN: [Turn; 10] = [
     Turn(Way::Tells, b"\xe0\x07", b"\x07\x72\x00\x40\x02\x48\x50"),
     Turn(Way::Tells, b"\x02\x80\x12\x00\x00\x04", b""),
@@ -55,7 +55,7 @@ static SEVEN: [Turn; 10] = [
     Turn(Way::Tells, b"\xca\x07", b"\xca\x07"),
 ];
 
-// With a number a part has one byte less.
+/// With a number a part has one byte less.
 static PARTS: [Turn; 3] = [
     Turn(Way::Tells, b"\xe0\x07", b"\x07\x72\x00\x40\x02\x48\x50"),
     Turn(

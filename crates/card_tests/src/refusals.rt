@@ -1,11 +1,11 @@
-// Settings out of range, and a buffer that is too small.
+//! Settings out of range, and a buffer that is too small.
 use crate::bench::{Way, play_turn, settings};
 use applications::Metre;
 use card::{Card, CardSettings};
 use frames::GREATEST_FRAME;
 use std::test::Fail;
 
-// The settings are refused by 1, and the application comes back.
+/// The settings are refused by 1, and the application comes back.
 fn refused(settings: CardSettings) -> bool {
     match Card::new(settings, Metre::new(100)) {
         Ok(_) => false,
@@ -35,7 +35,7 @@ fn settings_out_of_range(rt: HostRuntime) {
     );
 }
 
-// A buffer of 255 bytes is refused by 5, and nothing changes.
+/// A buffer of 255 bytes is refused by 5, and nothing changes.
 #[test]
 fn small_buffer(rt: HostRuntime) -> Result<(), Fail> {
     let Ok(mut card) = Card::new(settings(true, 0x00), Metre::new(100)) else {

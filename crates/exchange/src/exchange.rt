@@ -1,4 +1,4 @@
-// An exchange over a link: a command sent in parts, and its answer gathered.
+//! An exchange over a link: a command sent in parts, and its answer gathered.
 ghost use Rattle.std.specs.Prelude.{◌≡◌, ◌+◌, ◌*◌, ◌<◌, ◌≤◌, length};
 ghost use Rattle.buffers.specs.Stores.{command_held};
 ghost use Rattle.protocol.specs.Reader.{running};
@@ -20,7 +20,7 @@ mod methods;
 mod sending;
 mod steps;
 
-// The part of the command in the last block begins at `from` and is as long as the link has room, or to the command's end.
+/// The part of the command in the last block begins at `from` and is as long as the link has room, or to the command's end.
 #[derive(Drop)]
 pub struct Exchange {
     link: Link,
@@ -30,14 +30,14 @@ pub struct Exchange {
     from: usize,
     answer: AnswerStore,
     totals: Totals,
-    // the repeats since the last fresh frame, and the last cause since then
+    /// the repeats since the last fresh frame, and the last cause since then
     since: u8,
     why: Cause,
-    // the multiplier of a wait that still holds
+    /// the multiplier of a wait that still holds
     stretch: u8,
-    // an R(ACK) of the other number came after the latest writing of the last block
+    /// an R(ACK) of the other number came after the latest writing of the last block
     other: bool,
-    // a wait or an I-block of equal number came after its first writing
+    /// a wait or an I-block of equal number came after its first writing
     came: bool,
     ghost sends: { (progress_seen progress ≡ running → from < length (command_held command)) },
     ghost place: { from ≤ 261 },

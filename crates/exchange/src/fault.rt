@@ -1,4 +1,4 @@
-// Why what was heard is of no use to a session: the faults of every layer below.
+//! Why what was heard is of no use to a session: the faults of every layer below.
 ghost use Rattle.std.specs.Prelude.{◌≡◌};
 ghost use Rattle.frames.specs.Faults.{cause_seen};
 ghost use Rattle.exchange.specs.Faults.{session_cause};
@@ -9,11 +9,11 @@ use frames::{BlockFault, Cause, FrameFault};
 
 #[derive(Clone, Copy)]
 pub enum SessionFault {
-    // it is no frame
+    /// it is no frame
     Frame(FrameFault),
-    // it is no block
+    /// it is no block
     Block(BlockFault),
-    // it is no ATS, or no response to a PPS
+    /// it is no ATS, or no response to a PPS
     Activation(ActivationFault),
 }
 

@@ -1,4 +1,4 @@
-// The reader's exchange: a command sent in parts, and the answer gathered.
+//! The reader's exchange: a command sent in parts, and the answer gathered.
 #![tactic(auto)]
 
 mod exchange;

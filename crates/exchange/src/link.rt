@@ -1,4 +1,4 @@
-// What the reader holds of a card since its ATS.
+//! What the reader holds of a card since its ATS.
 ghost use Rattle.std.specs.Prelude.{◌≡◌, ◌<◌, ◌≤◌, true};
 ghost use Rattle.frames.specs.Sizes.{greatest_frame};
 ghost use Rattle.frames.specs.Views.{cid_seen};
@@ -8,8 +8,8 @@ use frames::CardNumber;
 
 mod methods;
 
-// The card's frame size, the codes of its waiting time and of the divisors that it offers, the card number in the reader's
-// blocks, and the codes of the divisors in use, from the card and to it.
+/// The card's frame size, the codes of its waiting time and of the divisors that it offers, the card number in the reader's
+/// blocks, and the codes of the divisors in use, from the card and to it.
 #[derive(Clone, Copy)]
 pub struct Link {
     fsc: usize,

@@ -1,4 +1,4 @@
-// Listening for a block: what was heard after a frame, or silence.
+//! Listening for a block: what was heard after a frame, or silence.
 ghost use Rattle.std.specs.Prelude.{◌≡◌, IfOk};
 ghost use Rattle.frames.specs.Blocks.{ValidBlock};
 ghost use Rattle.frames.specs.Reading.{read_frame};
@@ -9,7 +9,7 @@ ghost use Rattle.exchange.specs.Listening.{event_seen, heard_bytes, reading_seen
 use super::fault::SessionFault;
 use frames::{Agreed, Block, BlockFault, FrameFault, read_block};
 
-// The bytes that were heard, if any were.
+/// The bytes that were heard, if any were.
 fn bytes_of<'a>(heard: Option<&'a [u8]>) -> Result<&'a [u8], FrameFault>
     ensures { result ≡ heard_bytes heard.entry }
 {
@@ -19,7 +19,7 @@ fn bytes_of<'a>(heard: Option<&'a [u8]>) -> Result<&'a [u8], FrameFault>
     }
 }
 
-// A frame as a block, at a reader of this frame size.
+/// A frame as a block, at a reader of this frame size.
 fn block_in<'a>(frame: &'a [u8], fsd: usize, agreed: Agreed) -> Result<Block<'a>, BlockFault>
     ensures value { seen result ≡ read_frame fsd (agreement agreed) frame.now }
     ensures valid { IfOk result (λ b. ValidBlock (block_seen b)) }
@@ -27,7 +27,7 @@ fn block_in<'a>(frame: &'a [u8], fsd: usize, agreed: Agreed) -> Result<Block<'a>
     read_block(frame, fsd, agreed)
 }
 
-// What was heard as a block, at a reader of this frame size.
+/// What was heard as a block, at a reader of this frame size.
 pub fn listen<'a>(
     heard: Option<&'a [u8]>,
     fsd: usize,

@@ -1,4 +1,4 @@
-// How far the latest command is.
+/// How far the latest command is.
 #[derive(Clone, Copy)]
 pub enum Progress {
     NoCommand,

@@ -1,33 +1,33 @@
-// What is told of an exchange: what the reader says of its command, the frames written, and why it ended.
+//! What is told of an exchange: what the reader says of its command, the frames written, and why it ended.
 ghost use Rattle.std.specs.Prelude.{◌≡◌};
 ghost use Rattle.protocol.specs.Reader.{ending_number};
 ghost use Rattle.exchange.specs.Views.{ending_seen};
 
 use frames::{Cause, Layer};
 
-// No cause since the last fresh frame.
+/// No cause since the last fresh frame.
 pub const NO_CAUSE: Cause = Cause {
     number: 0,
     place: 0,
     layer: Layer::Block,
 };
 
-// What the reader says of its latest command.
+/// What the reader says of its latest command.
 #[derive(Clone, Copy)]
 pub enum Says {
-    // there is none
+    /// there is none
     Nothing,
-    // it was answered
+    /// it was answered
     Done,
-    // it was given to the application
+    /// it was given to the application
     Taken,
-    // it was not, and will not be
+    /// it was not, and will not be
     NotTaken,
-    // nobody on the reader's side can know
+    /// nobody on the reader's side can know
     Doubt,
 }
 
-// The frames of an exchange, by what each was written for.
+/// The frames of an exchange, by what each was written for.
 #[derive(Clone, Copy)]
 pub struct Totals {
     pub fresh: u32,
@@ -35,28 +35,28 @@ pub struct Totals {
     pub waits: u32,
 }
 
-// What an exchange leaves to be told.
+/// What an exchange leaves to be told.
 #[derive(Clone, Copy)]
 pub struct Report {
     pub says: Says,
     pub totals: Totals,
 }
 
-// Why an exchange, or a waking, ended against the reader's will.
+/// Why an exchange, or a waking, ended against the reader's will.
 #[derive(Clone, Copy)]
 pub enum Ending {
-    // the repeats are spent; the last cause
+    /// the repeats are spent; the last cause
     Spent(Cause),
-    // a block that breaks the rules
+    /// a block that breaks the rules
     Broken,
-    // a wait too many
+    /// a wait too many
     WaitsSpent,
-    // an answer too long
+    /// an answer too long
     AnswerLong,
 }
 
 impl Ending {
-    // The number that stands for the ending.
+    /// The number that stands for the ending.
     pub fn number(self) -> u8
         ensures { result ≡ ending_number (ending_seen self) }
     {

@@ -1,8 +1,8 @@
-// What a reader is set to in an exchange, and what each turn of one comes to.
+//! What a reader is set to in an exchange, and what each turn of one comes to.
 use super::report::{Ending, Report};
 use frames::Refusal;
 
-// The reader's frame size, how often it repeats a fresh frame, and how many waits of an exchange it grants.
+/// The reader's frame size, how often it repeats a fresh frame, and how many waits of an exchange it grants.
 #[derive(Clone, Copy)]
 pub struct Limits {
     pub fsd: usize,
@@ -10,22 +10,22 @@ pub struct Limits {
     pub waits: u8,
 }
 
-// A frame was written: its length, and for how many carrier cycles to listen.
+/// A frame was written: its length, and for how many carrier cycles to listen.
 #[derive(Clone, Copy)]
 pub struct Sent {
     pub len: usize,
     pub cycles: u32,
 }
 
-// What the reader does about what it heard.
+/// What the reader does about what it heard.
 #[derive(Clone, Copy)]
 pub enum Turn {
-    // nothing, for a fault of the host's own
+    /// nothing, for a fault of the host's own
     Refused(Refusal),
-    // it goes on with a frame
+    /// it goes on with a frame
     Wrote(Sent),
-    // it is done, with an answer of this length
+    /// it is done, with an answer of this length
     Answered { len: usize, report: Report },
-    // it ends against its will
+    /// it ends against its will
     Over { ending: Ending, report: Report },
 }

@@ -1,19 +1,19 @@
-// Blocks, as they are sent and as they are read.
+//! Blocks, as they are sent and as they are read.
 ghost use Rattle.std.specs.Prelude.{◌≡◌};
 ghost use Rattle.frames.specs.declared.block.Block.TheVariants.{I, R, Deselect, Wait};
 ghost use Rattle.frames.specs.Views.{cid_seen, information_place};
 
-// A card number (CID) with the power level that it was sent with.
+/// A card number (CID) with the power level that it was sent with.
 #[derive(Clone, Copy)]
 pub struct CardNumber {
     pub number: u8,
     pub power: u8,
 }
 
-// A block. Block numbers are bits: false is 0, true is 1.
+/// A block. Block numbers are bits: false is 0, true is 1.
 #[derive(Clone, Copy)]
 pub enum Block<'a> {
-    // information, a part of the frame that begins at `place` (the control byte being 1)
+    /// information, a part of the frame that begins at `place` (the control byte being 1)
     I {
         chaining: bool,
         number: bool,
@@ -21,7 +21,7 @@ pub enum Block<'a> {
         place: usize,
         information: &'a [u8],
     },
-    // R(ACK), or R(NAK)
+    /// R(ACK), or R(NAK)
     R {
         nak: bool,
         number: bool,
@@ -30,7 +30,7 @@ pub enum Block<'a> {
     Deselect {
         card: Option<CardNumber>,
     },
-    // more time is asked for, or granted
+    /// more time is asked for, or granted
     Wait {
         multiplier: u8,
         power: u8,
@@ -38,16 +38,16 @@ pub enum Block<'a> {
     },
 }
 
-// Which card numbers a receiver takes.
+/// Which card numbers a receiver takes.
 #[derive(Clone, Copy)]
 pub enum Agreed {
     NoNumber,
     Number(u8),
-    // the number 0 as well as none
+    /// the number 0 as well as none
     ZeroOrNone,
 }
 
-// Where the information of a block begins, the control byte being 1.
+/// Where the information of a block begins, the control byte being 1.
 pub fn information_place(card: Option<CardNumber>) -> usize
     ensures { result ≡ information_place (cid_seen card) }
 {
@@ -58,7 +58,7 @@ pub fn information_place(card: Option<CardNumber>) -> usize
 }
 
 impl<'a> Block<'a> {
-    // An I-block with this information.
+    /// An I-block with this information.
     pub fn carrying(
         chaining: bool,
         number: bool,
@@ -76,7 +76,7 @@ impl<'a> Block<'a> {
         }
     }
 
-    // R(ACK), or R(NAK).
+    /// R(ACK), or R(NAK).
     pub fn acknowledging(nak: bool, number: bool, card: Option<CardNumber>) -> Block<'a>
         ensures { result ≡ R nak number card }
     {

@@ -1,4 +1,4 @@
-// The frame check CRC_A, bit by bit.
+//! The frame check CRC_A, bit by bit.
 ghost use Rattle.std.specs.Prelude.{◌≡◌};
 ghost use Rattle.frames.specs.Check.{shift, take_in, register};
 
@@ -26,7 +26,7 @@ fn taken_in(register: u16, byte: u8) -> u16
     r
 }
 
-// The register after all of `bytes`.
+/// The register after all of `bytes`.
 pub fn check_register(bytes: &[u8]) -> u16
     ensures { result ≡ register bytes.now }
 {

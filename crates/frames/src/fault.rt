@@ -1,10 +1,10 @@
-// Why what was heard is no frame, or no block.
+//! Why what was heard is no frame, or no block.
 ghost use Rattle.std.specs.Prelude.{◌≡◌};
 ghost use Rattle.frames.specs.Causes.{cause, block};
 ghost use Rattle.frames.specs.Faults.{cause_seen, frame_cause, block_cause};
 ghost use Rattle.frames.specs.declared.fault.BlockFault.TheVariants.{Frame as frame_fault};
 
-// The layer at which a cause was found.
+/// The layer at which a cause was found.
 #[derive(Clone, Copy)]
 pub enum Layer {
     Frame,
@@ -12,7 +12,7 @@ pub enum Layer {
     Block,
 }
 
-// A cause: its number, the place of the byte at fault, counted from 1 (0 where there is none), and its layer.
+/// A cause: its number, the place of the byte at fault, counted from 1 (0 where there is none), and its layer.
 #[derive(Clone, Copy)]
 pub struct Cause {
     pub number: u8,
@@ -20,31 +20,31 @@ pub struct Cause {
     pub layer: Layer,
 }
 
-// Why what was heard is no frame.
+/// Why what was heard is no frame.
 #[derive(Clone, Copy)]
 pub enum FrameFault {
-    // nothing was heard
+    /// nothing was heard
     Silence,
-    // under 3 bytes
+    /// under 3 bytes
     Short,
-    // longer than the receiver's frame size
+    /// longer than the receiver's frame size
     Long,
-    // the last two bytes are not the check of those before
+    /// the last two bytes are not the check of those before
     Check,
 }
 
-// Why what was heard is no block.
+/// Why what was heard is no block.
 #[derive(Clone, Copy)]
 pub enum BlockFault {
-    // it is no frame
+    /// it is no frame
     Frame(FrameFault),
-    // a control byte without a kind
+    /// a control byte without a kind
     Control,
-    // a length that blocks of the kind do not have
+    /// a length that blocks of the kind do not have
     Length,
-    // a card number byte that is none, or not the agreed one
+    /// a card number byte that is none, or not the agreed one
     Card,
-    // a reserved multiplier, at this place
+    /// a reserved multiplier, at this place
     Multiplier { place: usize },
 }
 
@@ -66,7 +66,7 @@ impl FrameFault {
     }
 }
 
-// A cause of the layer of blocks.
+/// A cause of the layer of blocks.
 fn of_block(number: u8, place: usize) -> Cause
     ensures { cause_seen result ≡ cause number place block }
 {

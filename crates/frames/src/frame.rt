@@ -1,4 +1,4 @@
-// Frames: a body of one byte or more, and its check.
+//! Frames: a body of one byte or more, and its check.
 ghost use Rattle.std.specs.Prelude.{◌≡◌, ◌+◌, ◌≤◌, length, take};
 ghost use Rattle.buffers.specs.Over.{over};
 ghost use Rattle.frames.specs.Check.{seal, checks, open_frame};
@@ -10,16 +10,16 @@ use super::fault::FrameFault;
 use super::refusal::Refusal;
 use buffers::put;
 
-// The greatest frame, and so the least buffer that every frame fits.
+/// The greatest frame, and so the least buffer that every frame fits.
 pub const GREATEST_FRAME: usize = 256;
 
-// The check's bytes.
+/// The check's bytes.
 pub const CHECK: usize = 2;
 
-// The longest body.
+/// The longest body.
 pub const LONGEST_BODY: usize = GREATEST_FRAME - CHECK;
 
-// Puts the check of the first `n` bytes behind them.
+/// Puts the check of the first `n` bytes behind them.
 pub fn close(out: &mut [u8], n: usize)
     requires { n + 2 ≤ length out.old }
     ensures { out.new ≡ over (seal (take n out.old)) out.old }
@@ -28,7 +28,7 @@ pub fn close(out: &mut [u8], n: usize)
     put(out, n, &check);
 }
 
-// Writes the frame of `body` to the front of `out`, and answers its length.
+/// Writes the frame of `body` to the front of `out`, and answers its length.
 pub fn seal(body: &[u8], out: &mut [u8]) -> Result<usize, Refusal>
     ensures value { result ≡ sealing body.now (length out.old) }
     ensures bytes { out.new ≡ written result (seal body.now) out.old }
@@ -44,7 +44,7 @@ pub fn seal(body: &[u8], out: &mut [u8]) -> Result<usize, Refusal>
     Ok(body.len() + CHECK)
 }
 
-// The last two bytes of `frame` are the check of those before.
+/// The last two bytes of `frame` are the check of those before.
 fn checked(frame: &[u8]) -> bool
     requires { 3 ≤ length frame.now }
     ensures { result ≡ checks frame.now }
@@ -54,7 +54,7 @@ fn checked(frame: &[u8]) -> bool
     frame[n] == low && frame[n + 1] == high
 }
 
-// The body of a frame that is at most `limit` long, as a part of it.
+/// The body of a frame that is at most `limit` long, as a part of it.
 pub fn unseal(frame: &[u8], limit: usize) -> Result<&[u8], FrameFault>
     ensures { opened_as result ≡ open_frame limit frame.now }
 {

@@ -1,4 +1,4 @@
-// The kind of block that each control byte begins.
+//! The kind of block that each control byte begins.
 ghost use Rattle.std.specs.Prelude.{◌≡◌};
 ghost use Rattle.frames.specs.Reading.{kind_of};
 ghost use Rattle.frames.specs.Kinds.{kind_seen};
@@ -9,7 +9,7 @@ pub enum Kind {
     R,
     Deselect,
     Wait,
-    // a control byte without a kind
+    /// a control byte without a kind
     Reserved,
 }
 
@@ -288,7 +288,7 @@ static KINDS: [Kind; 256] = [
     Kind::Reserved,
 ];
 
-// The kind of block that `control` begins.
+/// The kind of block that `control` begins.
 pub fn kind_of(control: u8) -> Kind
     ensures { kind_seen result ≡ kind_of control }
 {

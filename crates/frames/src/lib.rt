@@ -1,4 +1,4 @@
-// Frames and blocks of ISO/IEC 14443-4, Type A: the check, the control byte, blocks and their frames.
+//! Frames and blocks of ISO/IEC 14443-4, Type A: the check, the control byte, blocks and their frames.
 #![tactic(auto)]
 
 mod block;

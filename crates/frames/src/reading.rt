@@ -1,4 +1,4 @@
-// Reading a received frame as a block: the tests in their order, each with its fault.
+//! Reading a received frame as a block: the tests in their order, each with its fault.
 ghost use Rattle.std.specs.Prelude.{◌≡◌, ℕ, ◌/◌, ◌%◌, ◌<◌, true, List, length, drop, if◌then◌else◌};
 ghost use Rattle.frames.specs.Blocks.{follows, wait};
 ghost use Rattle.frames.specs.Causes.{multiplier_reserved};
@@ -13,14 +13,14 @@ use super::fault::BlockFault;
 use super::frame::unseal;
 use super::kind::{Kind, kind_of};
 
-// How many bytes a card number takes.
+/// How many bytes a card number takes.
 fn card_size(follows: bool) -> usize
     ensures { result ≡ cid_size follows }
 {
     if follows { 1 } else { 0 }
 }
 
-// As many bytes stand behind the control byte as blocks of the kind have.
+/// As many bytes stand behind the control byte as blocks of the kind have.
 fn fits(kind: Kind, follows: bool, n: usize) -> bool
     ensures { result ≡ length_fits (kind_seen kind) follows n }
 {
@@ -35,7 +35,7 @@ fn fits(kind: Kind, follows: bool, n: usize) -> bool
 }
 
 impl Agreed {
-    // The receiver takes blocks with this card number, or without.
+    /// The receiver takes blocks with this card number, or without.
     pub fn takes(self, card: Option<CardNumber>) -> bool
         ensures { result ≡ agrees (agreement self) (cid_seen card) }
     {
@@ -50,7 +50,7 @@ impl Agreed {
     }
 }
 
-// The card number byte is one: 00 in b6 b5, and no number 15.
+/// The card number byte is one: 00 in b6 b5, and no number 15.
 fn good_card(follows: bool, rest: &[u8]) -> bool
     requires { follows ≡ true → 0 < length rest.now }
     ensures { result ≡ cid_good follows rest.now }
@@ -62,7 +62,7 @@ fn good_card(follows: bool, rest: &[u8]) -> bool
     }
 }
 
-// The card number that stands behind the control byte, where one follows.
+/// The card number that stands behind the control byte, where one follows.
 fn card_of(follows: bool, rest: &[u8]) -> Option<CardNumber>
     requires { follows ≡ true → 0 < length rest.now }
     ensures { cid_seen result ≡ cid_of follows rest.now }
@@ -77,7 +77,7 @@ fn card_of(follows: bool, rest: &[u8]) -> Option<CardNumber>
     }
 }
 
-// The wait block of a multiplier byte.
+/// The wait block of a multiplier byte.
 fn wait_of<'a>(byte: u8, card: Option<CardNumber>) -> Result<Block<'a>, BlockFault>
     ensures value { seen result ≡ (if multiplier_good byte then valid (wait (byte % 64) (byte / 64) (cid_seen card)) else invalid (multiplier_reserved (information_place (cid_seen card)))) }
     ensures placed { (bytes : List ℕ) → Placed 2 bytes result }
@@ -95,7 +95,7 @@ fn wait_of<'a>(byte: u8, card: Option<CardNumber>) -> Result<Block<'a>, BlockFau
     })
 }
 
-// The block of a kind, from its control byte, its card number and the bytes behind the control byte.
+/// The block of a kind, from its control byte, its card number and the bytes behind the control byte.
 fn block_of<'a>(
     kind: Kind,
     control: u8,
@@ -127,7 +127,7 @@ fn block_of<'a>(
     }
 }
 
-// The tests behind that of the kind: length, card number, multiplier.
+/// The tests behind that of the kind: length, card number, multiplier.
 fn read_rest<'a>(
     agreed: Agreed,
     kind: Kind,
@@ -161,7 +161,7 @@ fn read_body<'a>(agreed: Agreed, body: &'a [u8]) -> Result<Block<'a>, BlockFault
     }
 }
 
-// Reads a frame as a receiver does whose frame size is `limit`. The information of an I-block is a part of `frame`.
+/// Reads a frame as a receiver does whose frame size is `limit`. The information of an I-block is a part of `frame`.
 pub fn read_block<'a>(
     frame: &'a [u8],
     limit: usize,

@@ -1,23 +1,23 @@
-// Why a call is refused for a fault of the host's own.
+//! Why a call is refused for a fault of the host's own.
 ghost use Rattle.std.specs.Prelude.{◌≡◌};
 ghost use Rattle.frames.specs.Refused.{refusal_number};
 
 #[derive(Clone, Copy)]
 pub enum Refusal {
-    // a setting is out of its range
+    /// a setting is out of its range
     Setting,
-    // a rate that the card does not offer
+    /// a rate that the card does not offer
     Rate,
-    // a length that cannot be sent
+    /// a length that cannot be sent
     Length,
-    // a call that does not belong to the stage
+    /// a call that does not belong to the stage
     Stage,
-    // a buffer that may be too small
+    /// a buffer that may be too small
     Buffer,
 }
 
 impl Refusal {
-    // The number that stands for the refusal.
+    /// The number that stands for the refusal.
     pub fn number(self) -> u8
         ensures { result ≡ refusal_number self }
     {

@@ -1,4 +1,4 @@
-// Writing a block as its frame.
+//! Writing a block as its frame.
 ghost use Rattle.std.specs.Prelude.{◌≡◌, ◌+◌, ◌≤◌, true, ◌∷◌, ◌++◌, length};
 ghost use Rattle.buffers.specs.Over.{over};
 ghost use Rattle.frames.specs.Blocks.{cid_bytes, bytes_of, frame_of};
@@ -21,7 +21,7 @@ fn card_in_range(card: Option<CardNumber>) -> bool
     }
 }
 
-// The block's numbers are in their ranges.
+/// The block's numbers are in their ranges.
 fn in_range(block: Block<'_>) -> bool
     ensures { result ≡ in_range (block_seen block.entry) }
 {
@@ -37,7 +37,7 @@ fn in_range(block: Block<'_>) -> bool
     }
 }
 
-// Puts a control byte and a card number at the front of `out`, and answers how many bytes these are.
+/// Puts a control byte and a card number at the front of `out`, and answers how many bytes these are.
 fn put_head(control: u8, card: Option<CardNumber>, out: &mut [u8]) -> usize
     requires { (cid_in_range (cid_seen card) ≡ true) × (2 ≤ length out.old) }
     ensures value { result ≡ length (control ∷ cid_bytes (cid_seen card)) }
@@ -55,7 +55,7 @@ fn put_head(control: u8, card: Option<CardNumber>, out: &mut [u8]) -> usize
     }
 }
 
-// Puts a block's bytes at the front of `out`, and answers how many these are.
+/// Puts a block's bytes at the front of `out`, and answers how many these are.
 fn put_parts(control: u8, card: Option<CardNumber>, information: &[u8], out: &mut [u8]) -> usize
     requires card { cid_in_range (cid_seen card) ≡ true }
     requires room { length (control ∷ (cid_bytes (cid_seen card) ++ information.now)) + 2 ≤ length out.old }
@@ -67,7 +67,7 @@ fn put_parts(control: u8, card: Option<CardNumber>, information: &[u8], out: &mu
     n + information.len()
 }
 
-// Puts a block's bytes, without check, at the front of `out`, and answers how many these are.
+/// Puts a block's bytes, without check, at the front of `out`, and answers how many these are.
 fn put_block(block: Block<'_>, out: &mut [u8]) -> usize
     requires range { in_range (block_seen block) ≡ true }
     requires room { length (bytes_of (block_seen block)) + 2 ≤ length out.old }
@@ -103,7 +103,7 @@ fn put_block(block: Block<'_>, out: &mut [u8]) -> usize
     }
 }
 
-// The block's frame is no longer than the greatest, and an I-block has information.
+/// The block's frame is no longer than the greatest, and an I-block has information.
 fn is_sendable(block: Block<'_>) -> bool
     ensures { result ≡ sendable (block_seen block.entry) }
 {
@@ -120,7 +120,7 @@ fn is_sendable(block: Block<'_>) -> bool
     }
 }
 
-// Writes the frame of `block` to the front of `out`, and answers its length.
+/// Writes the frame of `block` to the front of `out`, and answers its length.
 pub fn write_block(block: Block<'_>, out: &mut [u8]) -> Result<usize, Refusal>
     ensures value { result ≡ writing (block_seen block.entry) (length out.old) }
     ensures bytes { out.new ≡ written result (frame_of (block_seen block.entry)) out.old }

@@ -1,4 +1,4 @@
-// Frames that others have worked out, run.
+//! Frames that others have worked out, run.
 #![tactic(auto)]
 
 #[cfg(test)]
@@ -27,7 +27,7 @@ mod tests {
         seals_as(&rt, &[0x12, 0x34], &[0x12, 0x34, 0x26, 0xCF])
     }
 
-    // R(NAK) 0 of card number 1 at power level 1
+    /// R(NAK) 0 of card number 1 at power level 1
     #[test]
     fn acknowledgement_comes_back(rt: HostRuntime) -> Result<(), Fail> {
         let mut buffer = [0u8; GREATEST_FRAME];

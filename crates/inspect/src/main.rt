@@ -1,4 +1,4 @@
-// Reads jobs from standard input, a line each, and prints what was done.
+//! Reads jobs from standard input, a line each, and prints what was done.
 #![tactic(auto)]
 
 use inspection::push_output;

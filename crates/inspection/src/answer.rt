@@ -1,4 +1,4 @@
-// The answer to a job.
+//! The answer to a job.
 ghost use Rattle.std.specs.Prelude.{◌≡◌, ◌≤◌, ◌++◌, length, take, is_some, IfOk, OnOk};
 ghost use Rattle.frames.specs.Faults.{cause_seen};
 ghost use Rattle.frames.specs.Reading.{valid, invalid};
@@ -30,7 +30,7 @@ fn push_invalid(out: &mut Vec<u8>, cause: Cause) -> Result<(), AllocError>
     push_cause(out, cause)
 }
 
-// Appends what reading a frame gives.
+/// Appends what reading a frame gives.
 fn push_reading(
     out: &mut Vec<u8>,
     limit: usize,
@@ -45,7 +45,7 @@ fn push_reading(
     }
 }
 
-// Appends the frame that is the first `n` bytes of a buffer.
+/// Appends the frame that is the first `n` bytes of a buffer.
 fn push_sealed(out: &mut Vec<u8>, buffer: &[u8], n: usize) -> Result<(), AllocError>
     requires { n ≤ length buffer.now }
     ensures { OnOk result (out.new.items ≡ out.old.items ++ sealed_text (take n buffer.now)) }
@@ -63,7 +63,7 @@ fn push_refused(out: &mut Vec<u8>, refusal: Refusal) -> Result<(), AllocError>
     out.extend_from_slice(b"-")
 }
 
-// Appends what sealing a body gives.
+/// Appends what sealing a body gives.
 fn push_sealing(out: &mut Vec<u8>, body: &[u8]) -> Result<(), AllocError>
     ensures { OnOk result (out.new.items ≡ out.old.items ++ task_text (sealing body.now)) }
 {
@@ -74,7 +74,7 @@ fn push_sealing(out: &mut Vec<u8>, body: &[u8]) -> Result<(), AllocError>
     }
 }
 
-// Appends the answer to a job.
+/// Appends the answer to a job.
 fn push_answer(out: &mut Vec<u8>, job: Job) -> Result<(), AllocError>
     ensures { OnOk result (out.new.items ≡ out.old.items ++ task_text (task_seen job)) }
 {
@@ -89,7 +89,7 @@ fn push_answer(out: &mut Vec<u8>, job: Job) -> Result<(), AllocError>
     }
 }
 
-// Appends the answer to a line, with a line break, and says whether the line could be read; nothing is appended if it could not.
+/// Appends the answer to a line, with a line break, and says whether the line could be read; nothing is appended if it could not.
 pub fn push_line(heap: Global, out: &mut Vec<u8>, line: &[u8]) -> Result<bool, AllocError>
     ensures { IfOk result (λ ok. (ok ≡ is_some (task_of line.now)) × (out.new.items ≡ out.old.items ++ line_text (task_of line.now))) }
 {

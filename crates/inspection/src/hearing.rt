@@ -1,4 +1,4 @@
-// What an ATS says, as text.
+//! What an ATS says, as text.
 ghost use Rattle.std.specs.Prelude.{◌≡◌, ◌≤◌, [], ◌∷◌, ◌++◌, OnOk};
 ghost use Rattle.frames.specs.Faults.{cause_seen};
 ghost use Rattle.frames.specs.Sizes.{size_of, greatest_code};
@@ -15,7 +15,7 @@ use frames::Cause;
 use std::alloc::AllocError;
 use text::{push_bytes, push_field, push_number_field};
 
-// Appends a byte and the space behind it.
+/// Appends a byte and the space behind it.
 fn push_byte_field(out: &mut Vec<u8>, byte: u8) -> Result<(), AllocError>
     ensures { OnOk result (out.new.items ≡ out.old.items ++ (hex (byte ∷ []) ++ 32 ∷ [])) }
 {
@@ -24,7 +24,7 @@ fn push_byte_field(out: &mut Vec<u8>, byte: u8) -> Result<(), AllocError>
     Ok(())
 }
 
-// The card's frame size.
+/// The card's frame size.
 fn card_size(fsci: u8) -> usize
     requires { fsci ≤ greatest_code }
     ensures { result ≡ size_of fsci }
@@ -35,7 +35,7 @@ fn card_size(fsci: u8) -> usize
     }
 }
 
-// Appends the card's frame size and TA.
+/// Appends the card's frame size and TA.
 fn push_offer(out: &mut Vec<u8>, ats: Ats<'_>) -> Result<(), AllocError>
     requires { ValidAts (said_by ats) }
     ensures { OnOk result (out.new.items ≡ out.old.items ++ offer_text (said_by ats.entry)) }
@@ -44,7 +44,7 @@ fn push_offer(out: &mut Vec<u8>, ats: Ats<'_>) -> Result<(), AllocError>
     push_bytes(out, &[ats.ta])
 }
 
-// Appends waiting time, guard time, TC and the historical bytes.
+/// Appends waiting time, guard time, TC and the historical bytes.
 fn push_times(out: &mut Vec<u8>, ats: Ats<'_>) -> Result<(), AllocError>
     ensures { OnOk result (out.new.items ≡ out.old.items ++ times_text (said_by ats.entry)) }
 {
@@ -54,7 +54,7 @@ fn push_times(out: &mut Vec<u8>, ats: Ats<'_>) -> Result<(), AllocError>
     push_bytes(out, ats.historical)
 }
 
-// Appends what an ATS says.
+/// Appends what an ATS says.
 fn push_ats(out: &mut Vec<u8>, ats: Ats<'_>) -> Result<(), AllocError>
     requires { ValidAts (said_by ats) }
     ensures { OnOk result (out.new.items ≡ out.old.items ++ ats_text (good (said_by ats.entry))) }
@@ -73,7 +73,7 @@ fn push_no_ats(out: &mut Vec<u8>, cause: Cause) -> Result<(), AllocError>
     push_cause(out, cause)
 }
 
-// Appends what a frame is heard as, at a reader of this frame size.
+/// Appends what a frame is heard as, at a reader of this frame size.
 pub fn push_hearing(out: &mut Vec<u8>, fsd: usize, frame: &[u8]) -> Result<(), AllocError>
     ensures { OnOk result (out.new.items ≡ out.old.items ++ task_text (hearing fsd frame.now)) }
 {

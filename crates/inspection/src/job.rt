@@ -1,4 +1,4 @@
-// The job that a line asks for.
+//! The job that a line asks for.
 ghost use Rattle.std.specs.Prelude.{◌≡◌, IfOk};
 ghost use Rattle.std.specs.Option.{option_map};
 ghost use Rattle.text.specs.Hex.{bytes_in};
@@ -27,7 +27,7 @@ pub enum Job {
     },
 }
 
-// BODY
+/// BODY
 fn seal_job(heap: Global, field: &[u8]) -> Result<Option<Job>, AllocError>
     ensures { IfOk result (λ o. option_map task_seen o ≡ option_map (λ b. sealing b) (bytes_in field.now)) }
 {
@@ -37,7 +37,7 @@ fn seal_job(heap: Global, field: &[u8]) -> Result<Option<Job>, AllocError>
     }
 }
 
-// LIMIT CARD FRAME
+/// LIMIT CARD FRAME
 fn read_job(heap: Global, fields: &[u8]) -> Result<Option<Job>, AllocError>
     ensures { IfOk result (λ o. option_map task_seen o ≡ with_limit (cut_of fields.now)) }
 {
@@ -63,7 +63,7 @@ fn read_job(heap: Global, fields: &[u8]) -> Result<Option<Job>, AllocError>
     }
 }
 
-// FSD FRAME
+/// FSD FRAME
 fn ats_job(heap: Global, fields: &[u8]) -> Result<Option<Job>, AllocError>
     ensures { IfOk result (λ o. option_map task_seen o ≡ with_fsd (cut_of fields.now)) }
 {
@@ -79,7 +79,7 @@ fn ats_job(heap: Global, fields: &[u8]) -> Result<Option<Job>, AllocError>
     }
 }
 
-// The job that `line` asks for, if it can be read.
+/// The job that `line` asks for, if it can be read.
 pub fn job_of(heap: Global, line: &[u8]) -> Result<Option<Job>, AllocError>
     ensures { IfOk result (λ o. option_map task_seen o ≡ task_of line.now) }
 {

@@ -1,4 +1,4 @@
-// The jobs of `inspect`, read and answered line by line.
+//! The jobs of `inspect`, read and answered line by line.
 #![tactic(auto)]
 
 mod answer;

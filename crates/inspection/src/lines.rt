@@ -1,4 +1,4 @@
-// Input, line by line.
+//! Input, line by line.
 ghost use Rattle.std.specs.Prelude.{◌≡◌, ◌<◌, ◌++◌, OnOk};
 ghost use Rattle.inspection.specs.Lines.{output};
 
@@ -6,7 +6,7 @@ use super::answer::push_line;
 use std::alloc::{AllocError, Global};
 use text::{first_line, push_bad};
 
-// Appends an answer for each line of `input`, up to one that cannot be read.
+/// Appends an answer for each line of `input`, up to one that cannot be read.
 pub fn push_output(heap: Global, out: &mut Vec<u8>, input: &[u8]) -> Result<(), AllocError>
     ensures { OnOk result (out.new.items ≡ out.old.items ++ output input.now) }
 {

@@ -1,4 +1,4 @@
-// What is printed.
+//! What is printed.
 ghost use Rattle.std.specs.Prelude.{◌≡◌, ◌++◌, OnOk};
 ghost use Rattle.frames.specs.Blocks.{i_block, deselect, wait};
 ghost use Rattle.frames.specs.Faults.{layer_seen, cause_seen};
@@ -37,7 +37,7 @@ fn layer_text(layer: Layer) -> &'static [u8]
     }
 }
 
-// Appends a card number and its power level.
+/// Appends a card number and its power level.
 fn push_card(out: &mut Vec<u8>, card: Option<CardNumber>) -> Result<(), AllocError>
     ensures { OnOk result (out.new.items ≡ out.old.items ++ card_text (cid_seen card)) }
 {
@@ -50,7 +50,7 @@ fn push_card(out: &mut Vec<u8>, card: Option<CardNumber>) -> Result<(), AllocErr
     }
 }
 
-// Appends what I-blocks and R-blocks have: a letter, the block number, a word and the card number.
+/// Appends what I-blocks and R-blocks have: a letter, the block number, a word and the card number.
 fn push_numbered(
     out: &mut Vec<u8>,
     letter: &[u8],
@@ -66,7 +66,7 @@ fn push_numbered(
     push_card(out, card)
 }
 
-// Appends what an I-block is.
+/// Appends what an I-block is.
 fn push_information(
     out: &mut Vec<u8>,
     chaining: bool,
@@ -82,7 +82,7 @@ fn push_information(
     push_bytes(out, information)
 }
 
-// Appends what a wait block is.
+/// Appends what a wait block is.
 fn push_wait(
     out: &mut Vec<u8>,
     multiplier: u8,
@@ -97,7 +97,7 @@ fn push_wait(
     push_card(out, card)
 }
 
-// Appends what a deselect block is.
+/// Appends what a deselect block is.
 fn push_deselect(out: &mut Vec<u8>, card: Option<CardNumber>) -> Result<(), AllocError>
     ensures { OnOk result (out.new.items ≡ out.old.items ++ block_text (deselect (cid_seen card))) }
 {
@@ -105,7 +105,7 @@ fn push_deselect(out: &mut Vec<u8>, card: Option<CardNumber>) -> Result<(), Allo
     push_card(out, card)
 }
 
-// Appends what a block is.
+/// Appends what a block is.
 pub fn push_block(out: &mut Vec<u8>, block: Block<'_>) -> Result<(), AllocError>
     ensures { OnOk result (out.new.items ≡ out.old.items ++ block_text (block_seen block.entry)) }
 {
@@ -127,7 +127,7 @@ pub fn push_block(out: &mut Vec<u8>, block: Block<'_>) -> Result<(), AllocError>
     }
 }
 
-// Appends a cause: number, place and layer.
+/// Appends a cause: number, place and layer.
 pub fn push_cause(out: &mut Vec<u8>, cause: Cause) -> Result<(), AllocError>
     ensures { OnOk result (out.new.items ≡ out.old.items ++ cause_text (cause_seen cause)) }
 {

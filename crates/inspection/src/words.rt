@@ -1,4 +1,4 @@
-// The fields of a line.
+//! The fields of a line.
 ghost use Rattle.std.specs.Prelude.{◌≡◌};
 ghost use Rattle.std.specs.Option.{option_map};
 ghost use Rattle.frames.specs.Views.{agreement};
@@ -6,7 +6,7 @@ ghost use Rattle.inspection.specs.Words.{number_in, limit_in, card_in};
 
 use frames::{Agreed, GREATEST_FRAME};
 
-// The number that digits stand for, at most 1000.
+/// The number that digits stand for, at most 1000.
 fn number_in(field: &[u8]) -> Option<usize>
     ensures { result ≡ number_in field.now }
 {

@@ -1,4 +1,4 @@
-// What can be heard of the card.
+//! What can be heard of the card.
 ghost use Rattle.std.specs.Prelude.{◌≡◌, true, length};
 ghost use Rattle.frames.specs.Sizes.{greatest_frame};
 ghost use Rattle.pair.specs.Fronts.{fits};
@@ -7,7 +7,7 @@ use frames::GREATEST_FRAME;
 
 mod methods;
 
-// The card's reply to the reader's last frame, if there is one: so many bytes at the front.
+/// The card's reply to the reader's last frame, if there is one: so many bytes at the front.
 #[derive(Drop)]
 pub struct Air {
     pub bytes: [u8; GREATEST_FRAME],

@@ -1,34 +1,34 @@
-// What is done with a pair.
+//! What is done with a pair.
 
-// A frame's way to the card.
+/// A frame's way to the card.
 #[derive(Clone, Copy)]
 pub enum Fate {
-    // it arrives whole
+    /// it arrives whole
     Whole,
     Lost,
-    // it arrives spoilt
+    /// it arrives spoilt
     Spoilt,
 }
 
-// The reader's call; what it hears is what the field lets through.
+/// The reader's call; what it hears is what the field lets through.
 #[derive(Clone, Copy)]
 pub enum Call<'a> {
     Ask,
     Start,
-    // a command
+    /// a command
     Begin(&'a [u8]),
-    // the card's reply to the last frame, or silence where there is none
+    /// the card's reply to the last frame, or silence where there is none
     Hear,
-    // silence
+    /// silence
     Mute,
-    // these bytes, if they fail the check, and else silence
+    /// these bytes, if they fail the check, and else silence
     Noise(&'a [u8]),
     GiveUp,
     Close,
     Fetch,
 }
 
-// A call, and the fate of the frame that it writes.
+/// A call, and the fate of the frame that it writes.
 #[derive(Clone, Copy)]
 pub struct Step<'a> {
     pub call: Call<'a>,

@@ -1,4 +1,4 @@
-// A frame that reaches the card.
+//! A frame that reaches the card.
 ghost use Rattle.std.specs.Prelude.{◌≡◌, if◌then◌else◌, None};
 ghost use Rattle.card.specs.Calls.{move_at};
 ghost use Rattle.card.specs.Held.{card_of};
@@ -10,14 +10,14 @@ use super::air::Air;
 use applications::Application;
 use card::Card;
 
-// How much of a reply can be heard.
+/// How much of a reply can be heard.
 fn heard(audible: bool, len: Option<usize>) -> Option<usize>
     ensures { result ≡ (if audible then len else None) }
 {
     if audible { len } else { None }
 }
 
-// The card takes a frame; its reply can be heard if it is audible. Answers whether the application was given a command.
+/// The card takes a frame; its reply can be heard if it is audible. Answers whether the application was given a command.
 pub fn deliver<A: Application>(
     card: &mut Card<A>,
     air: &mut Air,

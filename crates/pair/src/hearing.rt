@@ -1,4 +1,4 @@
-// What the reader hears over the field.
+//! What the reader hears over the field.
 ghost use Rattle.std.specs.Prelude.{length};
 ghost use Rattle.protocol.specs.Reader.{do_call};
 ghost use Rattle.reader.specs.Sessions.{session_seen, settings_of};
@@ -11,7 +11,7 @@ use super::outcome::Outcome;
 use frames::unseal;
 use reader::Session;
 
-// The card's reply, or silence where there is none.
+/// The card's reply, or silence where there is none.
 pub fn hear_reply(reader: &mut Session, air: &Air, out: &mut [u8]) -> Outcome
     ensures { Reads (settings_of reader.old) (do_call (settings_of reader.old) (session_seen reader.old) (hearing (reply_seen air.now) (length out.old))) reader.new result out.old out.new }
 {
@@ -21,7 +21,7 @@ pub fn hear_reply(reader: &mut Session, air: &Air, out: &mut [u8]) -> Outcome
     }
 }
 
-// These bytes, if they fail the check, and else silence.
+/// These bytes, if they fail the check, and else silence.
 pub fn hear_noise(reader: &mut Session, bytes: &[u8], out: &mut [u8]) -> Outcome
     ensures { Reads (settings_of reader.old) (do_call (settings_of reader.old) (session_seen reader.old) (hearing_noise bytes.now (length out.old))) reader.new result out.old out.new }
 {

@@ -1,4 +1,4 @@
-// A reader and a card over a field that loses and spoils frames.
+//! A reader and a card over a field that loses and spoils frames.
 #![tactic(auto)]
 
 mod air;

@@ -1,4 +1,4 @@
-// What a call on a pair answers.
+//! What a call on a pair answers.
 ghost use Rattle.std.specs.Prelude.{◌≡◌, ℕ, ◌≤◌, List, [], length};
 ghost use Rattle.buffers.specs.Rooms.{answer_room};
 ghost use Rattle.protocol.specs.Reader.{outcome_number};
@@ -12,7 +12,7 @@ use exchange::{Ending, Report, Sent};
 use frames::Refusal;
 use stages::Outcome as Told;
 
-// What a card's ATS says.
+/// What a card's ATS says.
 #[derive(Drop)]
 pub struct Woken {
     pub fsci: u8,
@@ -23,39 +23,39 @@ pub struct Woken {
     pub historical: AnswerStore,
 }
 
-// The reader's answers, each with what it holds.
+/// The reader's answers, each with what it holds.
 #[derive(Drop)]
 pub enum Outcome {
-    // the call was refused for a fault of the host's own
+    /// the call was refused for a fault of the host's own
     Refused(Refusal),
-    // a frame stands at the front of the buffer
+    /// a frame stands at the front of the buffer
     Wrote(Sent),
-    // the card is awake
+    /// the card is awake
     Wakes(Woken),
-    // the session is active
+    /// the session is active
     Active,
-    // the exchange is done, with an answer of this length
+    /// the exchange is done, with an answer of this length
     Answered { len: usize, report: Report },
-    // the exchange or the waking ended against the reader's will
+    /// the exchange or the waking ended against the reader's will
     Over { ending: Ending, report: Report },
-    // the host gave the exchange up
+    /// the host gave the exchange up
     Stopped(Report),
-    // the card has answered to deselect
+    /// the card has answered to deselect
     Off,
-    // it has not, and counts as off
+    /// it has not, and counts as off
     Unanswered,
-    // so many bytes of an answer stand at the front of the buffer
+    /// so many bytes of an answer stand at the front of the buffer
     Fetched(usize),
 }
 
-// What a call answers, and whether it brought a command to the application.
+/// What a call answers, and whether it brought a command to the application.
 #[derive(Drop)]
 pub struct Answer {
     pub outcome: Outcome,
     pub given: bool,
 }
 
-// A copy of what an ATS says.
+/// A copy of what an ATS says.
 fn copied(ats: Ats<'_>) -> Woken
     requires { length (said_by ats).historical ≤ answer_room }
     ensures { woken_seen result ≡ said_by ats.entry }
@@ -73,7 +73,7 @@ fn copied(ats: Ats<'_>) -> Woken
 }
 
 impl Outcome {
-    // The reader's outcome, kept.
+    /// The reader's outcome, kept.
     pub(crate) fn of(told: Told<'_>) -> Outcome
         requires { Short (outcome_seen told []) }
         ensures seen { (buffer : List ℕ) → answer_seen result buffer ≡ outcome_seen told.entry buffer }
@@ -93,7 +93,7 @@ impl Outcome {
         }
     }
 
-    // How many bytes stand at the front of the buffer: a frame written or an answer fetched.
+    /// How many bytes stand at the front of the buffer: a frame written or an answer fetched.
     pub fn size(&self) -> usize
         ensures { result ≡ size_in self.now }
     {
@@ -104,7 +104,7 @@ impl Outcome {
         }
     }
 
-    // The number that stands for the outcome: 0 where the session goes on.
+    /// The number that stands for the outcome: 0 where the session goes on.
     pub fn number(&self) -> u8
         ensures { (buffer : List ℕ) → result ≡ outcome_number (answer_seen self.now buffer) }
     {

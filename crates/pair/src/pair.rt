@@ -1,4 +1,4 @@
-// A reader and a card with the field between them.
+//! A reader and a card with the field between them.
 use crate::air::Air;
 use card::Card;
 use reader::Session;

@@ -1,4 +1,4 @@
-// What is kept of a call.
+//! What is kept of a call.
 ghost use Rattle.std.specs.Prelude.{◌≡◌, ◌≤◌, length};
 ghost use Rattle.buffers.specs.Rooms.{answer_room};
 ghost use Rattle.pair.specs.Answers.{size_in};
@@ -8,7 +8,7 @@ use buffers::ANSWER_ROOM;
 
 mod methods;
 
-// What a call answered, and the buffer that it was handed: every frame fits into it, and every answer.
+/// What a call answered, and the buffer that it was handed: every frame fits into it, and every answer.
 #[derive(Drop)]
 pub struct Record {
     pub answer: Answer,

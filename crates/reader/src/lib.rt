@@ -1,4 +1,4 @@
-// The reader's end of ISO/IEC 14443-4: a session at any stage, and the stages' own types.
+//! The reader's end of ISO/IEC 14443-4: a session at any stage, and the stages' own types.
 #![tactic(auto)]
 
 mod session;

@@ -1,5 +1,5 @@
-// A session at any stage, for callers that hold a list of calls. A call that does not belong to the stage is refused, and
-// the stage is kept.
+//! A session at any stage, for callers that hold a list of calls. A call that does not belong to the stage is refused, and
+//! the stage is kept.
 use stages::{Asking, Busy, Closed, Closing, Ended, Failed, Idle, Unwoken, Woken};
 
 mod calls;

@@ -1,4 +1,4 @@
-// Sessions played frame by frame: the standard's scenarios, refusals, and what is told at the end.
+//! Sessions played frame by frame: the standard's scenarios, refusals, and what is told at the end.
 #![tactic(auto)]
 
 #[cfg(test)]

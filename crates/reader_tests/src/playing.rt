@@ -1,14 +1,14 @@
-// What a test needs to play a session.
+//! What a test needs to play a session.
 use exchange::{Says, Totals};
 use frames::{GREATEST_FRAME, Refusal, seal};
 use reader::{Outcome, Session, Settings};
 
-// An ATS with frame size 16 and FWI 4, without card numbers, and with them.
+/// An ATS with frame size 16 and FWI 4, without card numbers, and with them.
 pub const PLAIN: [u8; 5] = [0x05, 0x70, 0x00, 0x40, 0x00];
 
 pub const NUMBERED: [u8; 5] = [0x05, 0x70, 0x00, 0x40, 0x02];
 
-// What an outcome tells: its number, the length and the listening time of a frame, and the totals.
+/// What an outcome tells: its number, the length and the listening time of a frame, and the totals.
 #[derive(Clone, Copy)]
 pub struct Seen {
     pub number: u8,
@@ -23,7 +23,7 @@ const NONE: Totals = Totals {
     waits: 0,
 };
 
-// Everything that an outcome tells, but what the reader says.
+/// Everything that an outcome tells, but what the reader says.
 pub fn told(outcome: Outcome<'_>) -> Seen {
     let (len, cycles, totals) = match outcome {
         Outcome::Wrote(sent) => (sent.len, sent.cycles, NONE),
@@ -41,7 +41,7 @@ pub fn told(outcome: Outcome<'_>) -> Seen {
     }
 }
 
-// What the reader says, as a number: none, done, taken, not taken, in doubt.
+/// What the reader says, as a number: none, done, taken, not taken, in doubt.
 pub fn says(session: &Session) -> u8 {
     match session.says() {
         Says::Nothing => 0,
@@ -52,7 +52,7 @@ pub fn says(session: &Session) -> u8 {
     }
 }
 
-// The session hears the frame of `body`; an empty body stands for silence.
+/// The session hears the frame of `body`; an empty body stands for silence.
 pub fn after(session: &mut Session, body: &[u8], out: &mut [u8]) -> Seen {
     if body.is_empty() {
         return told(session.silent(out));
@@ -62,7 +62,7 @@ pub fn after(session: &mut Session, body: &[u8], out: &mut [u8]) -> Seen {
     told(session.heard(&frame[0..n], out))
 }
 
-// The frame of `body` was written.
+/// The frame of `body` was written.
 pub fn wrote(seen: Seen, out: &[u8], body: &[u8]) -> bool {
     let mut frame = [0; GREATEST_FRAME];
     let n = seal(body, &mut frame).unwrap_or(0);
@@ -73,24 +73,24 @@ pub fn wrote(seen: Seen, out: &[u8], body: &[u8]) -> bool {
         && out.starts_with(&frame[0..n])
 }
 
-// The session hears one body, and writes another.
+/// The session hears one body, and writes another.
 pub fn answers(session: &mut Session, heard: &[u8], out: &mut [u8], written: &[u8]) -> bool {
     let seen = after(session, heard, out);
     wrote(seen, out, written)
 }
 
-// The session takes a command, and writes this body.
+/// The session takes a command, and writes this body.
 pub fn begins(session: &mut Session, command: &[u8], out: &mut [u8], written: &[u8]) -> bool {
     let seen = told(session.begin(command, out));
     wrote(seen, out, written)
 }
 
-// The session hears this body, and answers this number.
+/// The session hears this body, and answers this number.
 pub fn ends(session: &mut Session, heard: &[u8], out: &mut [u8], number: u8) -> bool {
     after(session, heard, out).number == number
 }
 
-// Frame size code 0, card number 0, and so many repeats and waits.
+/// Frame size code 0, card number 0, and so many repeats and waits.
 pub fn limited(repeats: u8, waits: u8) -> Settings {
     Settings {
         fsdi: 0,
@@ -100,7 +100,7 @@ pub fn limited(repeats: u8, waits: u8) -> Settings {
     }
 }
 
-// An active session with a card that has answered with this ATS.
+/// An active session with a card that has answered with this ATS.
 pub fn active(settings: Settings, ats: &[u8], out: &mut [u8]) -> Result<Session, Refusal> {
     let mut session = Session::new(settings)?;
     told(session.ask(out));

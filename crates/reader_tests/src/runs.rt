@@ -1,4 +1,4 @@
-// What a session tells at its ends, its refusals in their order, and what it fetches.
+//! What a session tells at its ends, its refusals in their order, and what it fetches.
 use super::playing::*;
 use exchange::Ending;
 use frames::{GREATEST_FRAME, Layer};
@@ -12,7 +12,7 @@ fn started(settings: Settings, ats: &[u8], out: &mut [u8]) -> Result<Session, Fa
     }
 }
 
-// The repeats are spent, by silence.
+/// The repeats are spent, by silence.
 fn spent_by_silence(outcome: Outcome<'_>) -> bool {
     match outcome {
         Outcome::Over { ending, .. } => match ending {
@@ -37,7 +37,7 @@ fn silence_without_repeats(rt: HostRuntime) -> Result<(), Fail> {
     Ok(())
 }
 
-// One repeat, the first frame lost: R(ACK) of the other number to the R(NAK).
+/// One repeat, the first frame lost: R(ACK) of the other number to the R(NAK).
 #[test]
 fn one_repeat(rt: HostRuntime) -> Result<(), Fail> {
     let mut out = [0; GREATEST_FRAME];
@@ -50,7 +50,7 @@ fn one_repeat(rt: HostRuntime) -> Result<(), Fail> {
     Ok(())
 }
 
-// 13 bytes are one block and 14 are two, at frame size 16 without card number; with it 12 and 13.
+/// 13 bytes are one block and 14 are two, at frame size 16 without card number; with it 12 and 13.
 #[test]
 fn room(rt: HostRuntime) -> Result<(), Fail> {
     let mut out = [0; GREATEST_FRAME];
@@ -85,7 +85,7 @@ fn endings(rt: HostRuntime) -> Result<(), Fail> {
     Ok(())
 }
 
-// RATS is repeated, then only close is left, without card number.
+/// RATS is repeated, then only close is left, without card number.
 #[test]
 fn waking_fails(rt: HostRuntime) -> Result<(), Fail> {
     let mut out = [0; GREATEST_FRAME];
@@ -113,7 +113,7 @@ fn waking_fails(rt: HostRuntime) -> Result<(), Fail> {
     Ok(())
 }
 
-// 1, then 4, then 5, then 3; nothing moves.
+/// 1, then 4, then 5, then 3; nothing moves.
 #[test]
 fn refusals(rt: HostRuntime) -> Result<(), Fail> {
     let mut out = [0; GREATEST_FRAME];
@@ -143,7 +143,7 @@ fn refusals(rt: HostRuntime) -> Result<(), Fail> {
     Ok(())
 }
 
-// Before, in and after an exchange.
+/// Before, in and after an exchange.
 #[test]
 fn fetches(rt: HostRuntime) -> Result<(), Fail> {
     let mut out = [0; GREATEST_FRAME];
@@ -166,7 +166,7 @@ fn fetches(rt: HostRuntime) -> Result<(), Fail> {
     Ok(())
 }
 
-// 4096 × 2^FWI, times the multiplier until a valid block is heard, and never above the longest.
+/// 4096 × 2^FWI, times the multiplier until a valid block is heard, and never above the longest.
 #[test]
 fn listening(rt: HostRuntime) -> Result<(), Fail> {
     let mut out = [0; GREATEST_FRAME];

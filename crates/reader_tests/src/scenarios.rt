@@ -1,10 +1,10 @@
-// The standard's scenarios, without and with errors, from an active session on.
+//! The standard's scenarios, without and with errors, from an active session on.
 use super::playing::*;
 use frames::GREATEST_FRAME;
 use reader::Session;
 use std::test::Fail;
 
-// A session with a few repeats, and a card without card numbers.
+/// A session with a few repeats, and a card without card numbers.
 fn started(out: &mut [u8]) -> Result<Session, Fail> {
     match active(limited(3, 3), &PLAIN, out) {
         Ok(session) => Ok(session),
@@ -14,7 +14,7 @@ fn started(out: &mut [u8]) -> Result<Session, Fail> {
 
 const COMMAND: [u8; 2] = [0x80, 0x12];
 
-// 14 bytes, one more than a block of 16 bytes without card number carries.
+/// 14 bytes, one more than a block of 16 bytes without card number carries.
 const LONG: [u8; 14] = [1, 2, 3, 4, 5, 6, 7, 8, 9, 10, 11, 12, 13, 14];
 
 const FIRST_PART: [u8; 14] = [0x12, 1, 2, 3, 4, 5, 6, 7, 8, 9, 10, 11, 12, 13];
@@ -81,7 +81,7 @@ fn card_chains(rt: HostRuntime) -> Result<(), Fail> {
     Ok(())
 }
 
-// The first block is lost: the card's R(ACK) has the other number, and the block is sent again.
+/// The first block is lost: the card's R(ACK) has the other number, and the block is sent again.
 #[test]
 fn command_lost(rt: HostRuntime) -> Result<(), Fail> {
     let mut out = [0; GREATEST_FRAME];
@@ -97,7 +97,7 @@ fn command_lost(rt: HostRuntime) -> Result<(), Fail> {
     Ok(())
 }
 
-// The answer is lost, then the R(NAK) too.
+/// The answer is lost, then the R(NAK) too.
 #[test]
 fn answer_lost(rt: HostRuntime) -> Result<(), Fail> {
     let mut out = [0; GREATEST_FRAME];
@@ -113,7 +113,7 @@ fn answer_lost(rt: HostRuntime) -> Result<(), Fail> {
     Ok(())
 }
 
-// The card's request for time is lost, then the reader's answer to it.
+/// The card's request for time is lost, then the reader's answer to it.
 #[test]
 fn extension_lost(rt: HostRuntime) -> Result<(), Fail> {
     let mut out = [0; GREATEST_FRAME];
@@ -141,7 +141,7 @@ fn deselect_lost(rt: HostRuntime) -> Result<(), Fail> {
     Ok(())
 }
 
-// A block of a chain is lost, and then the card's R(ACK).
+/// A block of a chain is lost, and then the card's R(ACK).
 #[test]
 fn reader_chain_lost(rt: HostRuntime) -> Result<(), Fail> {
     let mut out = [0; GREATEST_FRAME];
@@ -155,7 +155,7 @@ fn reader_chain_lost(rt: HostRuntime) -> Result<(), Fail> {
     Ok(())
 }
 
-// A block of the card's chain is lost: R(ACK) again, since the answer has begun.
+/// A block of the card's chain is lost: R(ACK) again, since the answer has begun.
 #[test]
 fn card_chain_lost(rt: HostRuntime) -> Result<(), Fail> {
     let mut out = [0; GREATEST_FRAME];

@@ -1,4 +1,4 @@
-// The calls, on numbers and byte buffers.
+//! The calls, on numbers and byte buffers.
 ghost use Rattle.std.specs.Prelude.{◌≡◌, length};
 ghost use Rattle.std.specs.Option.{option_map};
 ghost use Rattle.frames.specs.Check.{seal};
@@ -9,7 +9,7 @@ ghost use Rattle.rig.specs.Reports.{agreed_by, read_by, read_number, reported, s
 use super::report::{Report, of_block, of_cause};
 use frames::{Agreed, read_block};
 
-// Seals `body` into `out`, and gives the frame's length.
+/// Seals `body` into `out`, and gives the frame's length.
 pub fn hurimpas_seal(body: &[u8], out: &mut [u8], n: &mut usize) -> u8
     ensures number { result ≡ seal_number (sealing body.now (length out.old)) }
     ensures bytes { out.new ≡ written (sealing body.now (length out.old)) (seal body.now) out.old }
@@ -24,7 +24,7 @@ pub fn hurimpas_seal(body: &[u8], out: &mut [u8], n: &mut usize) -> u8
     }
 }
 
-// An agreement on card numbers, by number.
+/// An agreement on card numbers, by number.
 fn agreed_by(n: u8) -> Option<Agreed>
     ensures { option_map agreement result ≡ agreed_by n }
 {
@@ -36,7 +36,7 @@ fn agreed_by(n: u8) -> Option<Agreed>
     }
 }
 
-// Reads `frame` as a receiver of frame size `limit` does, and reports what it is.
+/// Reads `frame` as a receiver of frame size `limit` does, and reports what it is.
 pub fn hurimpas_read(frame: &[u8], limit: usize, agreed: u8, report: &mut Report) -> u8
     ensures number { result ≡ read_number (read_by limit agreed frame.now) }
     ensures report { report.new ≡ reported (read_by limit agreed frame.now) report.old }

@@ -1,4 +1,4 @@
-// Sealing and reading on numbers and byte buffers, for rigs in C: `rig_c` exports the two calls.
+//! Sealing and reading on numbers and byte buffers, for rigs in C: `rig_c` exports the two calls.
 #![tactic(auto)]
 
 mod calls;

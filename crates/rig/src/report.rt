@@ -1,4 +1,4 @@
-// What a reading is, in numbers.
+//! What a reading is, in numbers.
 ghost use Rattle.std.specs.Prelude.{◌≡◌};
 ghost use Rattle.frames.specs.Faults.{layer_seen, cause_seen};
 ghost use Rattle.frames.specs.Reading.{valid, invalid};
@@ -57,7 +57,7 @@ fn layer_number(layer: Layer) -> u8
     }
 }
 
-// The report of a block's card number.
+/// The report of a block's card number.
 fn with_card(card: Option<CardNumber>) -> Report
     ensures { result ≡ report 0 0 0 0 (cid_seen card) 0 0 0 0 0 0 }
 {

@@ -1,4 +1,4 @@
-// The calls of `rig` as C knows them. include/hurimpas.h says what a caller owes.
+//! The calls of `rig` as C knows them. include/hurimpas.h says what a caller owes.
 #![tactic(auto)]
 
 ghost use Rattle.std.specs.Prelude.{◌≡◌, length};
@@ -8,7 +8,7 @@ ghost use Rattle.rig.specs.Reports.{read_by, read_number, reported, seal_number,
 
 use rig::Report;
 
-// Seals `body` into `out`, and gives the frame's length.
+/// Seals `body` into `out`, and gives the frame's length.
 #[unsafe(no_mangle)]
 pub extern "C" fn hurimpas_seal(body: &[u8], out: &mut [u8], n: &mut usize) -> u8
     ensures number { result ≡ seal_number (sealing body.now (length out.old)) }
@@ -18,7 +18,7 @@ pub extern "C" fn hurimpas_seal(body: &[u8], out: &mut [u8], n: &mut usize) -> u
     rig::hurimpas_seal(body, out, n)
 }
 
-// Reads `frame` as a receiver of frame size `limit` does, and reports what it is.
+/// Reads `frame` as a receiver of frame size `limit` does, and reports what it is.
 #[unsafe(no_mangle)]
 pub extern "C" fn hurimpas_read(frame: &[u8], limit: usize, agreed: u8, report: &mut Report) -> u8
     ensures number { result ≡ read_number (read_by limit agreed frame.now) }

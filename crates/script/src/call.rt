@@ -1,6 +1,6 @@
-// The calls of a script.
+//! The calls of a script.
 
-// The fate of a frame on its way to the card.
+/// The fate of a frame on its way to the card.
 #[derive(Clone, Copy)]
 pub enum Going {
     Whole,
@@ -8,7 +8,7 @@ pub enum Going {
     Spoilt,
 }
 
-// The word of a call.
+/// The word of a call.
 #[derive(Clone, Copy)]
 pub enum Word {
     Begin,
@@ -19,20 +19,20 @@ pub enum Word {
     Close,
 }
 
-// A call that may write a frame.
+/// A call that may write a frame.
 #[derive(Drop)]
 pub enum Order {
     Begin(Vec<u8>),
-    // the card's reply is heard, or silence where there is none
+    /// the card's reply is heard, or silence where there is none
     Hear,
-    // silence
+    /// silence
     Mute,
-    // bytes that fail the check
+    /// bytes that fail the check
     Spoil,
     Close,
 }
 
-// A call with the fate of the frame that it writes, or stop, which writes none.
+/// A call with the fate of the frame that it writes, or stop, which writes none.
 #[derive(Drop)]
 pub enum Entry {
     Call(Order, Going),

@@ -1,4 +1,4 @@
-// Reading the calls of a script.
+//! Reading the calls of a script.
 ghost use Rattle.std.specs.Prelude.{◌≡◌, IfOk};
 ghost use Rattle.std.specs.Option.{option_map};
 ghost use Rattle.script.specs.Calls.{call_names, word_in, is_dash, fate_in, bare_in, begun_with, stop_in, entry_in};
@@ -10,7 +10,7 @@ use super::call::{Entry, Going, Order, Word};
 use std::alloc::{AllocError, Global};
 use text::{bytes_in, cut, is_spelled};
 
-// The line is the line of call names.
+/// The line is the line of call names.
 pub fn names_calls(line: &[u8]) -> bool
     ensures { result ≡ spells call_names line.now }
 {
@@ -37,7 +37,7 @@ fn going_in(field: &[u8]) -> Option<Going>
     }
 }
 
-// A call without data.
+/// A call without data.
 fn bare(order: Order, field: &[u8], going: &[u8]) -> Option<Entry>
     ensures { option_map entry_seen result ≡ bare_in (order_seen order) field.now going.now }
 {
@@ -48,7 +48,7 @@ fn bare(order: Order, field: &[u8], going: &[u8]) -> Option<Entry>
     Some(Entry::Call(order, going))
 }
 
-// A command that is begun.
+/// A command that is begun.
 fn begin(heap: Global, field: &[u8], going: &[u8]) -> Result<Option<Entry>, AllocError>
     ensures { IfOk result (λ o. option_map entry_seen o ≡ begun_with (bytes_in field.now) (fate_in going.now)) }
 {
@@ -84,7 +84,7 @@ fn word_in(field: &[u8]) -> Option<Word>
     }
 }
 
-// What a line asks for, if it can be read.
+/// What a line asks for, if it can be read.
 pub fn entry_in(heap: Global, line: &[u8]) -> Result<Option<Entry>, AllocError>
     ensures { IfOk result (λ o. option_map entry_seen o ≡ entry_in line.now) }
 {

@@ -1,4 +1,4 @@
-// Scripts for the bench: which line is readable and as what, and what each call prints.
+//! Scripts for the bench: which line is readable and as what, and what each call prints.
 #![tactic(auto)]
 
 mod call;

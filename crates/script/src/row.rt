@@ -1,4 +1,4 @@
-// Printing what a call did.
+//! Printing what a call did.
 ghost use Rattle.std.specs.Prelude.{◌≡◌, [], ◌∷◌, ◌++◌, OnOk};
 ghost use Rattle.exchange.specs.Views.{says_seen};
 ghost use Rattle.script.specs.Calls.{order_word, entry_word};
@@ -10,7 +10,7 @@ use exchange::Says;
 use std::alloc::AllocError;
 use text::{push_bytes, push_field, push_line, push_number_field};
 
-// Appends the header.
+/// Appends the header.
 pub fn push_names(out: &mut Vec<u8>) -> Result<(), AllocError>
     ensures { OnOk result (out.new.items ≡ out.old.items ++ (row_names ++ 10 ∷ [])) }
 {
@@ -29,7 +29,7 @@ fn order_word(order: &Order) -> &'static [u8]
     }
 }
 
-// The word of a call.
+/// The word of a call.
 pub fn entry_word(entry: &Entry) -> &'static [u8]
     ensures { result.now ≡ entry_word (entry_seen entry.now) }
 {
@@ -51,7 +51,7 @@ fn says_word(says: Says) -> &'static [u8]
     }
 }
 
-// Appends a call's word and its result.
+/// Appends a call's word and its result.
 fn push_result(out: &mut Vec<u8>, word: &[u8], res: usize) -> Result<(), AllocError>
     ensures { OnOk result (out.new.items ≡ out.old.items ++ result_text word.now res) }
 {
@@ -59,7 +59,7 @@ fn push_result(out: &mut Vec<u8>, word: &[u8], res: usize) -> Result<(), AllocEr
     push_number_field(out, res)
 }
 
-// Appends the frame that a call wrote, the answer that it ended with, and what the reader says.
+/// Appends the frame that a call wrote, the answer that it ended with, and what the reader says.
 fn push_shown(out: &mut Vec<u8>, frame: &[u8], answer: &[u8], says: Says) -> Result<(), AllocError>
     ensures { OnOk result (out.new.items ≡ out.old.items ++ shown_text frame.now answer.now (says_seen says)) }
 {
@@ -72,7 +72,7 @@ fn push_shown(out: &mut Vec<u8>, frame: &[u8], answer: &[u8], says: Says) -> Res
     Ok(())
 }
 
-// Appends a call's row.
+/// Appends a call's row.
 pub fn push_row(
     out: &mut Vec<u8>,
     word: &[u8],

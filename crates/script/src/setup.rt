@@ -1,13 +1,13 @@
-// The set-up of a script.
+//! The set-up of a script.
 
-// What is on the card: a metre with this count, or a yarn record of this byte throughout.
+/// What is on the card: a metre with this count, or a yarn record of this byte throughout.
 #[derive(Clone, Copy)]
 pub enum App {
     Metre(u32),
     Yarn(u8),
 }
 
-// The frame size codes of reader and card, the card number, the reader's repeats and waits, and the application.
+/// The frame size codes of reader and card, the card number, the reader's repeats and waits, and the application.
 #[derive(Clone, Copy)]
 pub struct Values {
     pub fsdi: u8,

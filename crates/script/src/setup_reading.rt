@@ -1,4 +1,4 @@
-// Reading the set-up of a script.
+//! Reading the set-up of a script.
 ghost use Rattle.std.specs.Prelude.{◌≡◌};
 ghost use Rattle.std.specs.Option.{option_map};
 ghost use Rattle.script.specs.Setup.{metre, yarn, setup_names, small_in, metres_in, fill_in, chosen_in, first_number, values_in};
@@ -9,14 +9,14 @@ ghost use Rattle.text.specs.Words.{spells, cut_of};
 use super::setup::{App, Values};
 use text::{byte, cut, is_spelled, number_in};
 
-// The line is the line of set-up names.
+/// The line is the line of set-up names.
 pub fn names_setup(line: &[u8]) -> bool
     ensures { result ≡ spells setup_names line.now }
 {
     is_spelled(line, b"fsdi fsci cid repeats waits app amount")
 }
 
-// A number of one byte.
+/// A number of one byte.
 fn small_in(field: &[u8]) -> Option<u8>
     ensures { result ≡ small_in field.now }
 {
@@ -26,7 +26,7 @@ fn small_in(field: &[u8]) -> Option<u8>
     }
 }
 
-// A number of four bytes.
+/// A number of four bytes.
 fn metres_in(field: &[u8]) -> Option<u32>
     ensures { result ≡ metres_in field.now }
 {
@@ -36,7 +36,7 @@ fn metres_in(field: &[u8]) -> Option<u32>
     }
 }
 
-// A byte of two digits.
+/// A byte of two digits.
 fn fill_in(field: &[u8]) -> Option<u8>
     ensures { result ≡ fill_in field.now }
 {
@@ -60,7 +60,7 @@ fn yarn_of(amount: &[u8]) -> Option<App>
     Some(App::Yarn(fill))
 }
 
-// APP AMOUNT
+/// APP AMOUNT
 fn app_in(fields: &[u8]) -> Option<App>
     ensures { option_map chosen_seen result ≡ chosen_in (cut_of fields.now) }
 {
@@ -74,7 +74,7 @@ fn app_in(fields: &[u8]) -> Option<App>
     }
 }
 
-// A number of one byte up to a space, and what stands behind it.
+/// A number of one byte up to a space, and what stands behind it.
 fn first_number<'a>(line: &'a [u8]) -> Option<(u8, &'a [u8])>
     ensures { counted_seen result ≡ first_number line.now }
 {
@@ -83,7 +83,7 @@ fn first_number<'a>(line: &'a [u8]) -> Option<(u8, &'a [u8])>
     Some((n, rest))
 }
 
-// The values that a line stands for, if it can be read.
+/// The values that a line stands for, if it can be read.
 pub fn values_in(line: &[u8]) -> Option<Values>
     ensures { option_map values_seen result ≡ values_in line.now }
 {

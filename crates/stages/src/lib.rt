@@ -1,4 +1,4 @@
-// The stages of a reader's session by ISO/IEC 14443-4, each a type with just the calls that belong to it.
+//! The stages of a reader's session by ISO/IEC 14443-4, each a type with just the calls that belong to it.
 #![tactic(auto)]
 
 mod next;

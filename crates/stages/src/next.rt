@@ -1,28 +1,28 @@
-// The stage that a session is at after it has listened.
+//! The stage that a session is at after it has listened.
 use super::stage::{Asking, Busy, Closed, Closing, Ended, Failed, Idle, Woken};
 
-// After RATS.
+/// After RATS.
 #[derive(Drop)]
 pub enum AfterRats {
-    // RATS is out again, or the call was refused
+    /// RATS is out again, or the call was refused
     Asking(Asking),
     Woken(Woken),
     Failed(Failed),
 }
 
-// After a block of an exchange.
+/// After a block of an exchange.
 #[derive(Drop)]
 pub enum AfterBlock {
-    // the exchange goes on, or the call was refused
+    /// the exchange goes on, or the call was refused
     Busy(Busy),
     Idle(Idle),
     Ended(Ended),
 }
 
-// After deselect.
+/// After deselect.
 #[derive(Drop)]
 pub enum AfterDeselect {
-    // deselect is out again, or the call was refused
+    /// deselect is out again, or the call was refused
     Closing(Closing),
     Closed(Closed),
 }

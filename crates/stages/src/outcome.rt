@@ -1,4 +1,4 @@
-// What a call of a session answers.
+//! What a call of a session answers.
 ghost use Rattle.std.specs.Prelude.{◌≡◌, []};
 ghost use Rattle.protocol.specs.Reader.{outcome_number};
 ghost use Rattle.stages.specs.Outcomes.{outcome_seen};
@@ -9,30 +9,30 @@ use frames::Refusal;
 
 #[derive(Clone, Copy)]
 pub enum Outcome<'a> {
-    // the call was refused for a fault of the host's own
+    /// the call was refused for a fault of the host's own
     Refused(Refusal),
-    // a frame stands at the front of the buffer
+    /// a frame stands at the front of the buffer
     Wrote(Sent),
-    // the card is awake
+    /// the card is awake
     Wakes(Ats<'a>),
-    // the session is active
+    /// the session is active
     Active,
-    // the exchange is done, with an answer of this length
+    /// the exchange is done, with an answer of this length
     Answered { len: usize, report: Report },
-    // the exchange or the waking ended against the reader's will
+    /// the exchange or the waking ended against the reader's will
     Over { ending: Ending, report: Report },
-    // the host gave the exchange up
+    /// the host gave the exchange up
     Stopped(Report),
-    // the card has answered to deselect
+    /// the card has answered to deselect
     Off,
-    // it has not, and counts as off
+    /// it has not, and counts as off
     Unanswered,
-    // so many bytes of an answer stand at the front of the buffer
+    /// so many bytes of an answer stand at the front of the buffer
     Fetched(usize),
 }
 
 impl Outcome<'_> {
-    // The number that stands for the outcome: 0 where the session goes on.
+    /// The number that stands for the outcome: 0 where the session goes on.
     pub fn number(self) -> u8
         ensures { result ≡ outcome_number (outcome_seen self.entry []) }
     {

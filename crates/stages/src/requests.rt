@@ -1,4 +1,4 @@
-// RATS and deselect as a session writes them, and what it hears in return.
+//! RATS and deselect as a session writes them, and what it hears in return.
 ghost use Rattle.std.specs.Prelude.{◌≡◌, true, IfOk};
 ghost use Rattle.activation.specs.Laws.{ValidAts};
 ghost use Rattle.activation.specs.Views.{said_by};
@@ -18,10 +18,10 @@ use activation::{Ats, hear_ats, write_rats};
 use exchange::{Sent, SessionFault, listen};
 use frames::{Agreed, Block, CardNumber, FrameFault, Refusal, write_block};
 
-// For how many carrier cycles a reader listens after RATS and after deselect.
+/// For how many carrier cycles a reader listens after RATS and after deselect.
 const ACTIVATION_TIME: u32 = 65_536;
 
-// Writes RATS.
+/// Writes RATS.
 pub fn write_request(setup: Setup, out: &mut [u8]) -> Result<Sent, Refusal>
     ensures { Writes (seal (rats_of (setup_seen setup).fsdi (setup_seen setup).cid)) result out.old out.new }
 {
@@ -32,7 +32,7 @@ pub fn write_request(setup: Setup, out: &mut [u8]) -> Result<Sent, Refusal>
     })
 }
 
-// Writes deselect, with this card number or without.
+/// Writes deselect, with this card number or without.
 pub fn write_deselect(card: Option<CardNumber>, out: &mut [u8]) -> Result<Sent, Refusal>
     requires { cid_in_range (cid_seen card) ≡ true }
     ensures { Writes (frame_of (deselect (cid_seen card))) result out.old out.new }
@@ -44,7 +44,7 @@ pub fn write_deselect(card: Option<CardNumber>, out: &mut [u8]) -> Result<Sent, 
     })
 }
 
-// What was heard as an ATS; nothing heard is silence.
+/// What was heard as an ATS; nothing heard is silence.
 pub fn hear_answer<'a>(bytes: Option<&'a [u8]>, setup: Setup) -> Result<Ats<'a>, SessionFault>
     ensures read { answer_seen result ≡ ats_in (size_of (setup_seen setup).fsdi) (event_seen bytes.entry) }
     ensures valid { IfOk result (λ a. ValidAts (said_by a)) }
@@ -55,7 +55,7 @@ pub fn hear_answer<'a>(bytes: Option<&'a [u8]>, setup: Setup) -> Result<Ats<'a>,
     Ok(hear_ats(frame, setup.fsd())?)
 }
 
-// What was heard is a deselect of the card.
+/// What was heard is a deselect of the card.
 pub fn is_deselect(bytes: Option<&[u8]>, fsd: usize, agreed: Agreed) -> bool
     ensures { result ≡ is_deselect (read_as fsd (agreement agreed) (event_seen bytes.entry)) }
 {

@@ -1,18 +1,18 @@
-// What a reader is set to.
+//! What a reader is set to.
 ghost use Rattle.std.specs.Prelude.{◌≡◌};
 ghost use Rattle.protocol.specs.Settings.{reader_in_range};
 ghost use Rattle.stages.specs.Setups.{wished};
 
 use activation::GREATEST_CODE;
 
-// Card numbers are below this one.
+/// Card numbers are below this one.
 const CARD_NUMBERS: u8 = 15;
 
-// A fresh frame is repeated at most so often.
+/// A fresh frame is repeated at most so often.
 const MOST_REPEATS: u8 = 15;
 
-// The code of the reader's frame size, the number that it gives the card, how often it repeats a fresh frame, and how many
-// waits of an exchange it grants.
+/// The code of the reader's frame size, the number that it gives the card, how often it repeats a fresh frame, and how many
+/// waits of an exchange it grants.
 #[derive(Clone, Copy)]
 pub struct Settings {
     pub fsdi: u8,
@@ -22,7 +22,7 @@ pub struct Settings {
 }
 
 impl Settings {
-    // Every setting is in its range; each number of waits that a byte holds is.
+    /// Every setting is in its range; each number of waits that a byte holds is.
     pub fn is_valid(self) -> bool
         ensures { result ≡ reader_in_range (wished self) }
     {

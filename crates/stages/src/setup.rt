@@ -1,4 +1,4 @@
-// The settings of a session, in their ranges.
+//! The settings of a session, in their ranges.
 ghost use Rattle.std.specs.Prelude.{◌<◌, ◌≤◌};
 
 mod methods;

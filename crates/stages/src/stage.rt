@@ -1,4 +1,4 @@
-// The stages of a session. Each is a type of its own, is never copied, and has just the calls that belong to it.
+//! The stages of a session. Each is a type of its own, is never copied, and has just the calls that belong to it.
 use super::setup::Setup;
 use exchange::{Exchange, Link};
 use frames::Cause;
@@ -11,13 +11,13 @@ mod waking;
 
 pub use busy::Busy;
 
-// Nothing was asked yet.
+/// Nothing was asked yet.
 #[derive(Drop)]
 pub struct Unwoken {
     setup: Setup,
 }
 
-// RATS is out: how often it was repeated, and the last cause.
+/// RATS is out: how often it was repeated, and the last cause.
 #[derive(Drop)]
 pub struct Asking {
     setup: Setup,
@@ -25,14 +25,14 @@ pub struct Asking {
     why: Cause,
 }
 
-// The card has answered with an ATS.
+/// The card has answered with an ATS.
 #[derive(Drop)]
 pub struct Woken {
     setup: Setup,
     link: Link,
 }
 
-// The card has not, as often as RATS was repeated; only close is left.
+/// The card has not, as often as RATS was repeated; only close is left.
 #[derive(Drop)]
 pub struct Failed {
     setup: Setup,
@@ -40,21 +40,21 @@ pub struct Failed {
     why: Cause,
 }
 
-// The session is active, and no exchange is open.
+/// The session is active, and no exchange is open.
 #[derive(Drop)]
 pub struct Idle {
     setup: Setup,
     exchange: Exchange,
 }
 
-// An exchange has ended before it was done; only close is left.
+/// An exchange has ended before it was done; only close is left.
 #[derive(Drop)]
 pub struct Ended {
     setup: Setup,
     exchange: Exchange,
 }
 
-// Deselect is out: the latest exchange, where a card had answered to RATS, and how often deselect was repeated.
+/// Deselect is out: the latest exchange, where a card had answered to RATS, and how often deselect was repeated.
 #[derive(Drop)]
 pub struct Closing {
     setup: Setup,
@@ -62,7 +62,7 @@ pub struct Closing {
     tries: u8,
 }
 
-// The card is off.
+/// The card is off.
 #[derive(Drop)]
 pub struct Closed {
     closing: Closing,

@@ -1,4 +1,4 @@
-// Reads a set-up and a command from standard input, and prints how the exchange ends under every short run of losses.
+//! Reads a set-up and a command from standard input, and prints how the exchange ends under every short run of losses.
 #![tactic(auto)]
 
 use std::io;
@@ -6,7 +6,7 @@ use std::io::{Read, Write};
 use sweeping::{Reading, Sweep, read_order};
 use text::push_bad;
 
-// The table is printed in pieces of about this many bytes.
+/// The table is printed in pieces of about this many bytes.
 const PIECE: usize = 65536;
 
 fn main(rt: HostRuntime) -> io::Result<()> {

@@ -1,4 +1,4 @@
-// One exchange under every short run of losses, and the table of how each ended.
+//! One exchange under every short run of losses, and the table of how each ended.
 #![tactic(auto)]
 
 mod laws;

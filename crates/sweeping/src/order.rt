@@ -1,7 +1,7 @@
-// What a sweep is asked for.
+//! What a sweep is asked for.
 use script::Values;
 
-// A set-up, a command, and the longest run of losses.
+/// A set-up, a command, and the longest run of losses.
 #[derive(Drop)]
 pub struct Order {
     pub values: Values,

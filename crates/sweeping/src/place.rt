@@ -1,29 +1,29 @@
-// Where a sweep stands.
+//! Where a sweep stands.
 ghost use Rattle.std.specs.Prelude.{◌≡◌};
 ghost use Rattle.sweeping.specs.Places.{last_code, following, after_unharmed, plan_from};
 
 use super::plan::Plan;
 
-// The next line of the table.
+/// The next line of the table.
 #[derive(Clone, Copy)]
 pub enum Place {
-    // the header
+    /// the header
     Names,
-    // the run in which nothing is lost
+    /// the run in which nothing is lost
     Unharmed,
-    // so many losses, from this turn on, by the digits of this number
+    /// so many losses, from this turn on, by the digits of this number
     Losses {
         count: usize,
         first: usize,
         code: usize,
     },
-    // the last line
+    /// the last line
     Sum,
-    // no line is left
+    /// no line is left
     End,
 }
 
-// The greatest number of so many digits to base 4.
+/// The greatest number of so many digits to base 4.
 fn last_code(count: usize) -> usize
     ensures { result ≡ last_code count }
 {
@@ -36,7 +36,7 @@ fn last_code(count: usize) -> usize
     }
 }
 
-// The place after a run of losses: first by its digits, then by its first turn, then by its length.
+/// The place after a run of losses: first by its digits, then by its first turn, then by its length.
 pub fn following(losses: usize, turns: usize, count: usize, first: usize, code: usize) -> Place
     ensures { result ≡ following losses turns count first code }
 {
@@ -64,7 +64,7 @@ pub fn following(losses: usize, turns: usize, count: usize, first: usize, code: 
     Place::Sum
 }
 
-// The place after the run in which nothing is lost.
+/// The place after the run in which nothing is lost.
 pub fn after_unharmed(turns: usize) -> Place
     ensures { result ≡ after_unharmed turns }
 {
@@ -78,7 +78,7 @@ pub fn after_unharmed(turns: usize) -> Place
     }
 }
 
-// The plan of a run of losses that starts at turn `first`.
+/// The plan of a run of losses that starts at turn `first`.
 pub fn plan_from(count: usize, first: usize, code: usize) -> Plan
     ensures { result ≡ plan_from count first code }
 {

@@ -1,26 +1,26 @@
-// Which turns of an exchange suffer which loss.
+//! Which turns of an exchange suffer which loss.
 ghost use Rattle.std.specs.Prelude.{◌≡◌};
 ghost use Rattle.pair.specs.Pairs.{fate_seen, deed_seen};
 ghost use Rattle.sweeping.specs.Plans.{loss_of, loss_in, plan_after, fate_under, deed_under};
 
 use pair::{Call, Fate};
 
-// What happens to a turn: a frame written, and what is heard after it.
+/// What happens to a turn: a frame written, and what is heard after it.
 #[derive(Clone, Copy)]
 pub enum Loss {
-    // nothing is lost
+    /// nothing is lost
     Whole,
-    // the frame is lost on its way to the card
+    /// the frame is lost on its way to the card
     Lost,
-    // the frame arrives spoilt
+    /// the frame arrives spoilt
     Spoilt,
-    // silence in place of the reply
+    /// silence in place of the reply
     Muted,
-    // noise in place of the reply
+    /// noise in place of the reply
     Noisy,
 }
 
-// So many whole turns, then so many losses, the digits of a number to base 4, the lowest first; whole turns after them.
+/// So many whole turns, then so many losses, the digits of a number to base 4, the lowest first; whole turns after them.
 #[derive(Clone, Copy)]
 pub struct Plan {
     pub before: usize,
@@ -28,11 +28,11 @@ pub struct Plan {
     pub code: usize,
 }
 
-// What is heard as noise: three bytes that fail the check.
+/// What is heard as noise: three bytes that fail the check.
 static NOISE: [u8; 3] = [0, 0, 0];
 
 impl Loss {
-    // The loss that a digit stands for.
+    /// The loss that a digit stands for.
     pub fn of(digit: usize) -> Loss
         ensures { result ≡ loss_of digit }
     {
@@ -44,7 +44,7 @@ impl Loss {
         }
     }
 
-    // The fate of the turn's frame.
+    /// The fate of the turn's frame.
     pub fn fate(self) -> Fate
         ensures { fate_seen result ≡ fate_under self }
     {
@@ -55,7 +55,7 @@ impl Loss {
         }
     }
 
-    // What is heard after the frame.
+    /// What is heard after the frame.
     pub fn heard(self) -> Call<'static>
         ensures { deed_seen result ≡ deed_under self }
     {
@@ -68,7 +68,7 @@ impl Loss {
 }
 
 impl Plan {
-    // The loss at the first turn.
+    /// The loss at the first turn.
     pub fn loss(self) -> Loss
         ensures { result ≡ loss_in self }
     {
@@ -81,7 +81,7 @@ impl Plan {
         Loss::of(self.code % 4)
     }
 
-    // The plan of the turns after the first.
+    /// The plan of the turns after the first.
     pub fn after(self) -> Plan
         ensures { result ≡ plan_after self }
     {

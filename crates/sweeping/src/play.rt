@@ -1,4 +1,4 @@
-// An exchange, played to its end.
+//! An exchange, played to its end.
 ghost use Rattle.std.specs.Prelude.{◌≡◌};
 ghost use Rattle.pair.specs.Deeds.{ask, hear, start};
 ghost use Rattle.pair.specs.Pairs.{deed_seen, act_seen, world_seen, setup_seen};
@@ -11,14 +11,14 @@ use applications::Application;
 use frames::GREATEST_FRAME;
 use pair::{Call, Fate, Pair};
 
-// What has been told so far.
+/// What has been told so far.
 #[derive(Clone, Copy)]
 pub struct Tally {
     pub told: Told,
     pub times: Times,
 }
 
-// One act more.
+/// One act more.
 fn act<A: Application>(pair: &mut Pair<A>, times: Times, call: Call<'_>, fate: Fate) -> Tally
     ensures { Acted A.Application.model pair.old pair.new result (and_then (setup_seen A.Application.model pair.old) (world_seen pair.old) times (act_seen call.entry fate)) }
 {
@@ -30,7 +30,7 @@ fn act<A: Application>(pair: &mut Pair<A>, times: Times, call: Call<'_>, fate: F
     }
 }
 
-// The turns of a plan, as long as the exchange goes on, and no more than `left`.
+/// The turns of a plan, as long as the exchange goes on, and no more than `left`.
 pub fn drive<A: Application>(pair: &mut Pair<A>, tally: Tally, plan: Plan, left: usize) -> Tally
     ensures { trail_seen pair.new result ≡ driven left (setup_seen A.Application.model pair.old) plan (trail_seen pair.old tally) }
 {
@@ -63,7 +63,7 @@ fn starts() -> Call<'static>
     Call::Start
 }
 
-// Wakes the card unharmed.
+/// Wakes the card unharmed.
 pub fn wake<A: Application>(pair: &mut Pair<A>)
     ensures setup { setup_seen A.Application.model pair.new ≡ setup_seen A.Application.model pair.old }
     ensures world { world_seen pair.new ≡ woken_from (setup_seen A.Application.model pair.old) (world_seen pair.old) }
@@ -73,7 +73,7 @@ pub fn wake<A: Application>(pair: &mut Pair<A>)
     act(pair, Times::Never, starts(), Fate::Whole);
 }
 
-// Begins a command; its first frame has the fate of the first turn.
+/// Begins a command; its first frame has the fate of the first turn.
 pub fn begin<A: Application>(pair: &mut Pair<A>, command: &[u8], plan: Plan) -> Tally
     ensures { Acted A.Application.model pair.old pair.new result (begun (setup_seen A.Application.model pair.old) (world_seen pair.old) command.now plan) }
 {

@@ -1,4 +1,4 @@
-// The table.
+//! The table.
 ghost use Rattle.std.specs.Prelude.{◌≡◌, ◌++◌, OnOk};
 ghost use Rattle.exchange.specs.Views.{says_seen};
 ghost use Rattle.script.specs.Rows.{says_text};
@@ -12,7 +12,7 @@ use exchange::Says;
 use std::alloc::AllocError;
 use text::{push_field, push_line, push_number, push_number_field};
 
-// Appends the header.
+/// Appends the header.
 pub fn push_names(out: &mut Vec<u8>) -> Result<(), AllocError>
     ensures { OnOk result (out.new.items ≡ out.old.items ++ names_text) }
 {
@@ -31,7 +31,7 @@ fn letter(loss: Loss) -> u8
     }
 }
 
-// Appends a letter for each of `count` digits, the lowest first.
+/// Appends a letter for each of `count` digits, the lowest first.
 fn push_letters(out: &mut Vec<u8>, count: usize, code: usize) -> Result<(), AllocError>
     ensures { OnOk result (out.new.items ≡ out.old.items ++ letters_text count code) }
 {
@@ -42,7 +42,7 @@ fn push_letters(out: &mut Vec<u8>, count: usize, code: usize) -> Result<(), Allo
     push_letters(out, count - 1, code / 4)
 }
 
-// Appends the word of a run of losses; a dash where there is none.
+/// Appends the word of a run of losses; a dash where there is none.
 fn push_word(out: &mut Vec<u8>, count: usize, code: usize) -> Result<(), AllocError>
     ensures { OnOk result (out.new.items ≡ out.old.items ++ word_text count code) }
 {
@@ -75,7 +75,7 @@ fn card_word(times: Times) -> &'static [u8]
     }
 }
 
-// Appends how a run ended.
+/// Appends how a run ended.
 fn push_end(out: &mut Vec<u8>, row: Row) -> Result<(), AllocError>
     ensures { OnOk result (out.new.items ≡ out.old.items ++ end_text (row_seen row)) }
 {
@@ -85,7 +85,7 @@ fn push_end(out: &mut Vec<u8>, row: Row) -> Result<(), AllocError>
     push_line(out, card_word(row.times))
 }
 
-// Appends a row: where the losses were, which they were, and how the run ended.
+/// Appends a row: where the losses were, which they were, and how the run ended.
 pub fn push_row(
     out: &mut Vec<u8>,
     turn: usize,
@@ -101,7 +101,7 @@ pub fn push_row(
     push_end(out, row)
 }
 
-// Appends the last line.
+/// Appends the last line.
 pub fn push_sum(out: &mut Vec<u8>, runs: usize, disagreements: usize) -> Result<(), AllocError>
     ensures { OnOk result (out.new.items ≡ out.old.items ++ sum_text runs disagreements) }
 {

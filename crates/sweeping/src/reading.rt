@@ -1,4 +1,4 @@
-// Reading what a sweep is asked for.
+//! Reading what a sweep is asked for.
 ghost use Rattle.std.specs.Prelude.{◌≡◌, IfOk};
 ghost use Rattle.script.specs.SetupViews.{values_seen};
 ghost use Rattle.text.specs.Lines.{lines_of};
@@ -12,20 +12,20 @@ use script::{Values, names_setup, values_in};
 use std::alloc::{AllocError, Global};
 use text::{bytes_in, cut, first_line, is_spelled, number_in};
 
-// The most bytes of a command.
+/// The most bytes of a command.
 const LONGEST_COMMAND: usize = 261;
 
-// The longest run of losses.
+/// The longest run of losses.
 const MOST_LOSSES: usize = 5;
 
-// What can be read: an order, or the number of the line that cannot be.
+/// What can be read: an order, or the number of the line that cannot be.
 #[derive(Drop)]
 pub enum Reading {
     Ready(Order),
     Bad(usize),
 }
 
-// The first line, if there is one, and what stands behind it.
+/// The first line, if there is one, and what stands behind it.
 fn next_line<'a>(text: &'a [u8]) -> Option<(&'a [u8], &'a [u8])>
     ensures { first_seen result ≡ first_in (lines_of text.now) }
 {
@@ -36,7 +36,7 @@ fn next_line<'a>(text: &'a [u8]) -> Option<(&'a [u8], &'a [u8])>
     Some((line, rest))
 }
 
-// The line is the line of the order's names.
+/// The line is the line of the order's names.
 fn names_order(line: &[u8]) -> bool
     ensures { result ≡ spells order_names line.now }
 {
@@ -58,7 +58,7 @@ fn losses_in(field: &[u8]) -> Option<usize>
     }
 }
 
-// The number of losses, and nothing behind the line.
+/// The number of losses, and nothing behind the line.
 fn read_losses(values: Values, command: Vec<u8>, field: &[u8], rest: &[u8]) -> Reading
     ensures { reading_seen result ≡ with_losses (values_seen values) command.items (losses_in field.now) (lines_of rest.now) }
 {
@@ -75,7 +75,7 @@ fn read_losses(values: Values, command: Vec<u8>, field: &[u8], rest: &[u8]) -> R
     }
 }
 
-// COMMAND LOSSES
+/// COMMAND LOSSES
 fn read_fourth(heap: Global, values: Values, text: &[u8]) -> Result<Reading, AllocError>
     ensures { IfOk result (λ o. reading_seen o ≡ from_fourth (values_seen values) (first_in (lines_of text.now))) }
 {
@@ -94,7 +94,7 @@ fn read_fourth(heap: Global, values: Values, text: &[u8]) -> Result<Reading, All
     Ok(read_losses(values, command, losses, rest))
 }
 
-// The names, and what stands behind them.
+/// The names, and what stands behind them.
 fn read_third(heap: Global, values: Values, text: &[u8]) -> Result<Reading, AllocError>
     ensures { IfOk result (λ o. reading_seen o ≡ from_third (values_seen values) (first_in (lines_of text.now))) }
 {
@@ -107,7 +107,7 @@ fn read_third(heap: Global, values: Values, text: &[u8]) -> Result<Reading, Allo
     read_fourth(heap, values, rest)
 }
 
-// The values of the set-up, and what stands behind them.
+/// The values of the set-up, and what stands behind them.
 fn read_second(heap: Global, text: &[u8]) -> Result<Reading, AllocError>
     ensures { IfOk result (λ o. reading_seen o ≡ from_second (first_in (lines_of text.now))) }
 {
@@ -123,7 +123,7 @@ fn read_second(heap: Global, text: &[u8]) -> Result<Reading, AllocError>
     read_third(heap, values, rest)
 }
 
-// What a text asks for.
+/// What a text asks for.
 pub fn read_order(heap: Global, text: &[u8]) -> Result<Reading, AllocError>
     ensures { IfOk result (λ o. reading_seen o ≡ from_first (first_in (lines_of text.now))) }
 {

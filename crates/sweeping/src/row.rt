@@ -1,4 +1,4 @@
-// How a run ended.
+//! How a run ended.
 ghost use Rattle.std.specs.Prelude.{◌≡◌};
 ghost use Rattle.exchange.specs.Views.{says_seen};
 ghost use Rattle.pair.specs.Pairs.{world_seen, setup_seen};
@@ -16,10 +16,10 @@ use pair::Pair;
 use script::{App, Values};
 use trial::{card_settings, reader_settings};
 
-// More turns than an exchange can have.
+/// More turns than an exchange can have.
 const MOST_TURNS: usize = 100000;
 
-// How an exchange ended, the frames written, what the reader says, and how often the application was given the command.
+/// How an exchange ended, the frames written, what the reader says, and how often the application was given the command.
 #[derive(Clone, Copy)]
 pub struct Row {
     pub result: u8,
@@ -28,7 +28,7 @@ pub struct Row {
     pub times: Times,
 }
 
-// Settings that are refused: nothing is played.
+/// Settings that are refused: nothing is played.
 fn unplayed() -> Row
     ensures { row_seen result ≡ unplayed }
 {
@@ -40,7 +40,7 @@ fn unplayed() -> Row
     }
 }
 
-// One exchange with a pair that has not been woken.
+/// One exchange with a pair that has not been woken.
 fn play_out<A: Application>(pair: &mut Pair<A>, command: &[u8], plan: Plan) -> Row
     ensures { row_seen result ≡ row_played (setup_seen A.Application.model pair.old) (world_seen pair.old) command.now plan }
 {
@@ -55,7 +55,7 @@ fn play_out<A: Application>(pair: &mut Pair<A>, command: &[u8], plan: Plan) -> R
     }
 }
 
-// One exchange with a new pair.
+/// One exchange with a new pair.
 fn play<A: Application + Drop>(values: Values, application: A, command: &[u8], plan: Plan) -> Row
     ensures { row_seen result ≡ row_for A.Application.model (reader_for (values_seen values)) (card_for (values_seen values)) application command.now plan }
 {
@@ -65,7 +65,7 @@ fn play<A: Application + Drop>(values: Values, application: A, command: &[u8], p
     }
 }
 
-// One exchange with the application that the set-up names.
+/// One exchange with the application that the set-up names.
 pub fn run(values: Values, command: &[u8], plan: Plan) -> Row
     ensures { row_seen result ≡ row_of (values_seen values) command.now plan }
 {
@@ -76,7 +76,7 @@ pub fn run(values: Values, command: &[u8], plan: Plan) -> Row
 }
 
 impl Row {
-    // What the reader says is not what is true at the card, or the application was given the command twice.
+    /// What the reader says is not what is true at the card, or the application was given the command twice.
     pub fn disagrees(self) -> bool
         ensures { result ≡ disagrees (says_seen self.says) self.times }
     {

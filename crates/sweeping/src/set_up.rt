@@ -1,4 +1,4 @@
-// What both ends are set to.
+//! What both ends are set to.
 ghost use Rattle.std.specs.Prelude.{◌≡◌};
 ghost use Rattle.script.specs.SetupViews.{values_seen};
 ghost use Rattle.sweeping.specs.Orders.{in_range};
@@ -6,7 +6,7 @@ ghost use Rattle.sweeping.specs.Orders.{in_range};
 use script::Values;
 use trial::{card_settings, reader_settings};
 
-// The settings of both ends are in their ranges.
+/// The settings of both ends are in their ranges.
 pub fn in_range(values: Values) -> bool
     ensures { result ≡ in_range (values_seen values) }
 {

@@ -1,4 +1,4 @@
-// What is told of a call.
+//! What is told of a call.
 ghost use Rattle.std.specs.Prelude.{◌≡◌, ℕ, List};
 ghost use Rattle.exchange.specs.Views.{totals_seen};
 ghost use Rattle.pair.specs.Answers.{answer_seen};
@@ -7,7 +7,7 @@ ghost use Rattle.sweeping.specs.Trails.{written, frames_in, writes, told_of, onw
 use exchange::Totals;
 use pair::Outcome;
 
-// The number of the outcome, the frames that it counts, and whether the exchange goes on.
+/// The number of the outcome, the frames that it counts, and whether the exchange goes on.
 #[derive(Clone, Copy)]
 pub struct Told {
     pub result: u8,
@@ -15,7 +15,7 @@ pub struct Told {
     pub goes_on: bool,
 }
 
-// How often the application was given a command.
+/// How often the application was given a command.
 #[derive(Clone, Copy)]
 pub enum Times {
     Never,
@@ -23,7 +23,7 @@ pub enum Times {
     Oftener,
 }
 
-// The frames of an exchange.
+/// The frames of an exchange.
 fn written(totals: Totals) -> usize
     ensures { result ≡ written (totals_seen totals) }
 {
@@ -62,7 +62,7 @@ impl Told {
 }
 
 impl Times {
-    // Once more, if a command was given.
+    /// Once more, if a command was given.
     pub fn after(self, given: bool) -> Times
         ensures { result ≡ onwards self given }
     {

@@ -1,11 +1,11 @@
-// Bytes as text: two hexadecimal digits a byte, and `-` for no bytes.
+//! Bytes as text: two hexadecimal digits a byte, and `-` for no bytes.
 ghost use Rattle.std.specs.Prelude.{◌≡◌, ◌<◌, ◌++◌, IfSome, IfOk, vec_items, OnOk};
 ghost use Rattle.std.specs.Option.{option_map};
 ghost use Rattle.text.specs.Hex.{digit_of, byte_of, unhex, bytes_in, upper, hex, shown_bytes};
 
 use std::alloc::{AllocError, Global};
 
-// The value of a digit, in either case.
+/// The value of a digit, in either case.
 fn digit(c: u8) -> Option<u8>
     ensures value { result ≡ digit_of c }
     ensures bound { IfSome result (λ v. v < 16) }
@@ -18,7 +18,7 @@ fn digit(c: u8) -> Option<u8>
     }
 }
 
-// The byte of two digits.
+/// The byte of two digits.
 pub fn byte(high: u8, low: u8) -> Option<u8>
     ensures { result ≡ byte_of high low }
 {
@@ -27,7 +27,7 @@ pub fn byte(high: u8, low: u8) -> Option<u8>
     Some(16 * h + l)
 }
 
-// The bytes that digits stand for.
+/// The bytes that digits stand for.
 fn bytes_of_digits(heap: Global, text: &[u8]) -> Result<Option<Vec<u8>>, AllocError>
     ensures { IfOk result (λ o. option_map vec_items o ≡ unhex text.now) }
 {
@@ -46,7 +46,7 @@ fn bytes_of_digits(heap: Global, text: &[u8]) -> Result<Option<Vec<u8>>, AllocEr
     Ok(Some(bytes))
 }
 
-// The bytes that a field stands for.
+/// The bytes that a field stands for.
 pub fn bytes_in(heap: Global, field: &[u8]) -> Result<Option<Vec<u8>>, AllocError>
     ensures { IfOk result (λ o. option_map vec_items o ≡ bytes_in field.now) }
 {
@@ -64,7 +64,7 @@ fn upper_digit(n: u8) -> u8
     if n < 10 { 48 + n } else { 55 + n }
 }
 
-// Appends the digits of bytes.
+/// Appends the digits of bytes.
 fn push_hex(out: &mut Vec<u8>, bytes: &[u8]) -> Result<(), AllocError>
     ensures { OnOk result (out.new.items ≡ out.old.items ++ hex bytes.now) }
 {
@@ -77,7 +77,7 @@ fn push_hex(out: &mut Vec<u8>, bytes: &[u8]) -> Result<(), AllocError>
     Ok(())
 }
 
-// Appends a field of bytes.
+/// Appends a field of bytes.
 pub fn push_bytes(out: &mut Vec<u8>, bytes: &[u8]) -> Result<(), AllocError>
     ensures { OnOk result (out.new.items ≡ out.old.items ++ shown_bytes bytes.now) }
 {

@@ -1,4 +1,4 @@
-// Text, as the programs read and print it: lines, fields, numbers, and bytes as hexadecimal digits.
+//! Text, as the programs read and print it: lines, fields, numbers, and bytes as hexadecimal digits.
 #![tactic(auto)]
 
 mod hex;

@@ -1,11 +1,11 @@
-// Lines of a text.
+//! Lines of a text.
 ghost use Rattle.std.specs.Prelude.{◌≡◌, ◌<◌, ◌∷◌, ◌++◌, length, OnOk};
 ghost use Rattle.text.specs.Lines.{lines_of, bad_text};
 
 use super::print::push_number;
 use std::alloc::AllocError;
 
-// The first line, without its line break, and what stands behind it.
+/// The first line, without its line break, and what stands behind it.
 pub fn first_line<'a>(text: &'a [u8]) -> (&'a [u8], &'a [u8])
     requires { 0 < length text.now }
     ensures lines { lines_of text.now ≡ result.0.now ∷ lines_of result.1.now }
@@ -19,7 +19,7 @@ pub fn first_line<'a>(text: &'a [u8]) -> (&'a [u8], &'a [u8])
     (text, &text[text.len()..])
 }
 
-// Appends what is printed for a line that cannot be read.
+/// Appends what is printed for a line that cannot be read.
 pub fn push_bad(out: &mut Vec<u8>, n: usize) -> Result<(), AllocError>
     ensures { OnOk result (out.new.items ≡ out.old.items ++ bad_text n) }
 {

@@ -1,9 +1,9 @@
-// Fields and numbers, printed.
+//! Fields and numbers, printed.
 ghost use Rattle.std.specs.Prelude.{◌≡◌, [], ◌∷◌, ◌++◌, decimal, OnOk};
 
 use std::alloc::AllocError;
 
-// Appends a number.
+/// Appends a number.
 pub fn push_number(out: &mut Vec<u8>, n: usize) -> Result<(), AllocError>
     ensures { OnOk result (out.new.items ≡ out.old.items ++ decimal n) }
 {
@@ -14,7 +14,7 @@ pub fn push_number(out: &mut Vec<u8>, n: usize) -> Result<(), AllocError>
     Ok(())
 }
 
-// Appends a field and the space behind it.
+/// Appends a field and the space behind it.
 pub fn push_field(out: &mut Vec<u8>, field: &[u8]) -> Result<(), AllocError>
     ensures { OnOk result (out.new.items ≡ out.old.items ++ (field.now ++ 32 ∷ [])) }
 {
@@ -23,7 +23,7 @@ pub fn push_field(out: &mut Vec<u8>, field: &[u8]) -> Result<(), AllocError>
     Ok(())
 }
 
-// Appends a line and its line break.
+/// Appends a line and its line break.
 pub fn push_line(out: &mut Vec<u8>, line: &[u8]) -> Result<(), AllocError>
     ensures { OnOk result (out.new.items ≡ out.old.items ++ (line.now ++ 10 ∷ [])) }
 {
@@ -32,7 +32,7 @@ pub fn push_line(out: &mut Vec<u8>, line: &[u8]) -> Result<(), AllocError>
     Ok(())
 }
 
-// Appends a number and the space behind it.
+/// Appends a number and the space behind it.
 pub fn push_number_field(out: &mut Vec<u8>, n: usize) -> Result<(), AllocError>
     ensures { OnOk result (out.new.items ≡ out.old.items ++ (decimal n ++ 32 ∷ [])) }
 {

@@ -1,19 +1,19 @@
-// The fields of a line.
+//! The fields of a line.
 ghost use Rattle.std.specs.Prelude.{◌≡◌};
 ghost use Rattle.text.specs.WordViews.{cut_seen};
 ghost use Rattle.text.specs.Words.{spells, cut_of, number_in};
 
-// The least number that is too great for every field, 2 to the power of 32; greater ones count as this.
+/// The least number that is too great for every field, 2 to the power of 32; greater ones count as this.
 pub const GREATEST_NUMBER: usize = 4294967296;
 
-// The field is this word.
+/// The field is this word.
 pub fn is_spelled(field: &[u8], word: &[u8]) -> bool
     ensures { result ≡ spells word.now field.now }
 {
     field == word
 }
 
-// Cuts at the first space.
+/// Cuts at the first space.
 pub fn cut<'a>(line: &'a [u8]) -> Option<(&'a [u8], &'a [u8])>
     ensures { cut_seen result ≡ cut_of line.now }
 {
@@ -25,7 +25,7 @@ pub fn cut<'a>(line: &'a [u8]) -> Option<(&'a [u8], &'a [u8])>
     None
 }
 
-// The number that digits stand for, at most GREATEST_NUMBER.
+/// The number that digits stand for, at most GREATEST_NUMBER.
 pub fn number_in(field: &[u8]) -> Option<usize>
     ensures { result ≡ number_in field.now }
 {

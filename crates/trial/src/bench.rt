@@ -1,4 +1,4 @@
-// The bench: both ends as a script sets them, with the card woken.
+//! The bench: both ends as a script sets them, with the card woken.
 ghost use Rattle.std.specs.Prelude.{◌≡◌, true};
 ghost use Rattle.card.specs.Held.{settings_of, settings_good};
 ghost use Rattle.protocol.specs.Settings.{card_in_range};
@@ -18,7 +18,7 @@ use pair::{Fate, Pair};
 use script::Values;
 use stages::Settings;
 
-// What the reader is set to.
+/// What the reader is set to.
 pub fn reader_settings(values: Values) -> Settings
     ensures { wished result ≡ reader_for (values_seen values) }
 {
@@ -30,7 +30,7 @@ pub fn reader_settings(values: Values) -> Settings
     }
 }
 
-// What the card is set to.
+/// What the card is set to.
 pub fn card_settings(values: Values) -> CardSettings
     ensures set { settings_of result ≡ card_for (values_seen values) }
     ensures good { settings_good result ≡ card_in_range (card_for (values_seen values)) }
@@ -46,7 +46,7 @@ pub fn card_settings(values: Values) -> CardSettings
     }
 }
 
-// Wakes the card, unharmed.
+/// Wakes the card, unharmed.
 fn wake<A: Application>(pair: &mut Pair<A>)
     ensures setup { setup_seen A.Application.model pair.new ≡ setup_seen A.Application.model pair.old }
     ensures world { world_seen pair.new ≡ ran (setup_seen A.Application.model pair.old) room (world_seen pair.old) waking }
@@ -57,7 +57,7 @@ fn wake<A: Application>(pair: &mut Pair<A>)
     pair.call(start(), Fate::Whole, &mut out);
 }
 
-// The bench with these values, the card woken; or none, where a setting is out of its range.
+/// The bench with these values, the card woken; or none, where a setting is out of its range.
 pub fn set_up<A: Application>(values: Values, application: A) -> Result<Pair<A>, (A, Refusal)>
     ensures { Stands A.Application.model (values_seen values) application result }
 {

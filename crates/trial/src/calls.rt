@@ -1,4 +1,4 @@
-// Calls that hold nothing, by name.
+//! Calls that hold nothing, by name.
 ghost use Rattle.std.specs.Prelude.{◌≡◌};
 ghost use Rattle.pair.specs.Deeds.{ask as asks, hear as hears, start as starts, fetch as fetches};
 ghost use Rattle.pair.specs.Pairs.{deed_seen};

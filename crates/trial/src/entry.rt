@@ -1,4 +1,4 @@
-// One entry of a script, played.
+//! One entry of a script, played.
 ghost use Rattle.std.specs.Prelude.{◌≡◌};
 ghost use Rattle.pair.specs.Pairs.{deed_seen, fate_seen};
 ghost use Rattle.script.specs.Orders.{order_seen, entry_seen, fate_seen as going_seen};
@@ -8,7 +8,7 @@ ghost use Rattle.trial.specs.Rows.{without_check};
 use pair::{Call, Fate};
 use script::{Entry, Going, Order};
 
-// What is heard where a script spoils a reply.
+/// What is heard where a script spoils a reply.
 static NOISE: [u8; 3] = [0, 0, 0];
 
 fn fate_of(going: Going) -> Fate
@@ -33,7 +33,7 @@ fn order_call<'a>(order: &'a Order) -> Call<'a>
     }
 }
 
-// The call of an entry.
+/// The call of an entry.
 pub fn call_of<'a>(entry: &'a Entry) -> Call<'a>
     ensures { deed_seen result ≡ (act_of (entry_seen entry.now)).deed }
 {
@@ -43,7 +43,7 @@ pub fn call_of<'a>(entry: &'a Entry) -> Call<'a>
     }
 }
 
-// The fate of the frame that its call writes.
+/// The fate of the frame that its call writes.
 pub fn going_of(entry: &Entry) -> Fate
     ensures { fate_seen result ≡ (act_of (entry_seen entry.now)).fate }
 {
@@ -53,7 +53,7 @@ pub fn going_of(entry: &Entry) -> Fate
     }
 }
 
-// A frame without its check.
+/// A frame without its check.
 pub fn without_check(frame: &[u8]) -> &[u8]
     ensures { result.now ≡ without_check frame.now }
 {

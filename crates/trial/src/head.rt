@@ -1,4 +1,4 @@
-// A whole script: its set-up, its names, and its calls.
+//! A whole script: its set-up, its names, and its calls.
 ghost use Rattle.std.specs.Prelude.{◌≡◌, ◌++◌, OnOk};
 ghost use Rattle.pair.specs.Pairs.{world_seen, setup_seen};
 ghost use Rattle.script.specs.SetupViews.{values_seen, chosen_seen};
@@ -14,7 +14,7 @@ use script::{App, Values, names_calls, names_setup, push_names, values_in};
 use std::alloc::{AllocError, Global};
 use text::{first_line, push_bad};
 
-// The next line of a text, and what stands behind it.
+/// The next line of a text, and what stands behind it.
 fn next_line<'a>(text: &'a [u8]) -> Option<(&'a [u8], &'a [u8])>
     ensures { NextLine (lines_of text.now) result }
 {
@@ -24,7 +24,7 @@ fn next_line<'a>(text: &'a [u8]) -> Option<(&'a [u8], &'a [u8])>
     Some(first_line(text))
 }
 
-// Line 3 and the calls behind it.
+/// Line 3 and the calls behind it.
 fn push_calls<A: Application>(
     heap: Global,
     pair: &mut Pair<A>,
@@ -43,7 +43,7 @@ fn push_calls<A: Application>(
     push_rows(heap, pair, out, calls)
 }
 
-// A bench with these values and this application.
+/// A bench with these values and this application.
 fn push_bench<A: Application + Drop>(
     heap: Global,
     values: Values,
@@ -62,7 +62,7 @@ fn push_bench<A: Application + Drop>(
     }
 }
 
-// The application that the values choose.
+/// The application that the values choose.
 fn push_chosen(
     heap: Global,
     values: Values,
@@ -77,7 +77,7 @@ fn push_chosen(
     }
 }
 
-// Line 2 and what stands behind it.
+/// Line 2 and what stands behind it.
 fn push_values(heap: Global, out: &mut Vec<u8>, text: &[u8]) -> Result<(), AllocError>
     ensures { OnOk result (out.new.items ≡ out.old.items ++ with_values (lines_of text.now)) }
 {
@@ -90,7 +90,7 @@ fn push_values(heap: Global, out: &mut Vec<u8>, text: &[u8]) -> Result<(), Alloc
     }
 }
 
-// Appends what is printed for a whole script.
+/// Appends what is printed for a whole script.
 pub fn push_output(heap: Global, out: &mut Vec<u8>, input: &[u8]) -> Result<(), AllocError>
     ensures { OnOk result (out.new.items ≡ out.old.items ++ output input.now) }
 {

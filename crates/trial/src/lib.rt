@@ -1,4 +1,4 @@
-// Scripts for the bench, played on a pair.
+//! Scripts for the bench, played on a pair.
 #![tactic(auto)]
 
 mod bench;

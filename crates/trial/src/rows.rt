@@ -1,4 +1,4 @@
-// The rows of a script.
+//! The rows of a script.
 ghost use Rattle.std.specs.Prelude.{◌≡◌, ◌++◌, IfOk, OnOk};
 ghost use Rattle.script.specs.Orders.{entry_seen};
 ghost use Rattle.std.specs.Option.{option_map};
@@ -16,12 +16,12 @@ use script::{Entry, entry_in, entry_word, push_row};
 use std::alloc::{AllocError, Global};
 use text::{first_line, push_bad};
 
-// The line of the first call, and of the last one that there may be.
+/// The line of the first call, and of the last one that there may be.
 const FIRST_CALL: usize = 4;
 
 const LAST_CALL: usize = 515;
 
-// Appends the row of an exchange that is done: its answer is fetched.
+/// Appends the row of an exchange that is done: its answer is fetched.
 fn push_done<A: Application>(
     pair: &mut Pair<A>,
     out: &mut Vec<u8>,
@@ -37,7 +37,7 @@ fn push_done<A: Application>(
     }
 }
 
-// Plays an entry and appends its row.
+/// Plays an entry and appends its row.
 fn push_entry<A: Application>(
     pair: &mut Pair<A>,
     out: &mut Vec<u8>,
@@ -65,7 +65,7 @@ fn push_entry<A: Application>(
     }
 }
 
-// The entry of line `n`, if there may be one and it can be read.
+/// The entry of line `n`, if there may be one and it can be read.
 fn entry_at(heap: Global, n: usize, line: &[u8]) -> Result<Option<Entry>, AllocError>
     ensures { IfOk result (λ o. option_map entry_seen o ≡ entry_at n line.now) }
 {
@@ -75,7 +75,7 @@ fn entry_at(heap: Global, n: usize, line: &[u8]) -> Result<Option<Entry>, AllocE
     entry_in(heap, line)
 }
 
-// Plays line `n` and appends its row, and says whether it could be read; nothing is played or appended if it could not.
+/// Plays line `n` and appends its row, and says whether it could be read; nothing is played or appended if it could not.
 fn push_call<A: Application>(
     heap: Global,
     pair: &mut Pair<A>,
@@ -92,7 +92,7 @@ fn push_call<A: Application>(
     Ok(true)
 }
 
-// Plays the lines of `calls`, and appends a row for each, up to one that cannot be read.
+/// Plays the lines of `calls`, and appends a row for each, up to one that cannot be read.
 pub fn push_rows<A: Application>(
     heap: Global,
     pair: &mut Pair<A>,

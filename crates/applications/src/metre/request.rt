@@ -1,4 +1,4 @@
-// What a command wants of the metre counter.
+//! What a command wants of the metre counter.
 ghost use Rattle.std.specs.Prelude.{◌≡◌};
 ghost use Rattle.applications.specs.Metre.{instruction_of, request_of};
 
@@ -7,7 +7,7 @@ use crate::status::StatusWord;
 
 const CLASS: u8 = 0x80;
 
-// A count has four bytes, high first.
+/// A count has four bytes, high first.
 const COUNT_SIZE: u8 = 4;
 
 #[derive(Clone, Copy)]
@@ -35,7 +35,7 @@ pub enum Request {
 }
 
 impl Request {
-    // Judges a command: a request, or the status word of its first fault.
+    /// Judges a command: a request, or the status word of its first fault.
     pub(super) fn read(command: &[u8]) -> Result<Request, StatusWord>
         ensures { result ≡ request_of command.now }
     {

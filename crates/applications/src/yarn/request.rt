@@ -1,4 +1,4 @@
-// What a command wants of the yarn record.
+//! What a command wants of the yarn record.
 ghost use Rattle.std.specs.Prelude.{◌≡◌, [], ◌∷◌};
 ghost use Rattle.applications.specs.Command.{judged};
 ghost use Rattle.applications.specs.Yarn.{instruction_of, read_length, wanted, as_wanted, past_end, request_of};
@@ -27,7 +27,7 @@ impl Instruction {
     }
 }
 
-// How many bytes a read wants.
+/// How many bytes a read wants.
 fn read_length(le: u8) -> usize
     ensures { result ≡ read_length le }
 {
@@ -41,7 +41,7 @@ pub enum Request<'a> {
 }
 
 impl<'a> Request<'a> {
-    // Judges a command: a request, or the status word of its first fault.
+    /// Judges a command: a request, or the status word of its first fault.
     pub(super) fn read(command: &'a [u8]) -> Result<Request<'a>, StatusWord>
         ensures { as_wanted result ≡ request_of command.now }
     {
@@ -61,7 +61,7 @@ impl<'a> Request<'a> {
         }
     }
 
-    // The same request, unless it goes past the end of the record.
+    /// The same request, unless it goes past the end of the record.
     fn within_record(self) -> Result<Request<'a>, StatusWord>
         ensures { as_wanted result ≡ judged (past_end (wanted self.entry) ∷ []) (wanted self.entry) }
     {

@@ -1,4 +1,4 @@
-// The yarn record as an application.
+//! The yarn record as an application.
 ghost use Rattle.applications.specs.Yarn.{yarn, done, request_of};
 ghost use Rattle.applications.specs.Bounds.{keeps_doing};
 ghost use Rattle.applications.specs.Records.{yarn_bounded};

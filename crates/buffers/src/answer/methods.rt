@@ -1,4 +1,4 @@
-// What a store of an answer does.
+//! What a store of an answer does.
 ghost use Rattle.std.specs.Prelude.{◌≡◌, ◌+◌, [], ◌++◌, length, if◌then◌else◌, nat_le};
 ghost use Rattle.buffers.specs.Over.{over_at};
 ghost use Rattle.buffers.specs.Rooms.{answer_room};
@@ -17,21 +17,21 @@ impl AnswerStore {
         }
     }
 
-    // The bytes gathered.
+    /// The bytes gathered.
     pub fn gathered(&self) -> &[u8]
         ensures { result.now ≡ answer_held self.now }
     {
         &self.bytes[0..self.len]
     }
 
-    // Forgets the bytes gathered.
+    /// Forgets the bytes gathered.
     pub fn clear(&mut self)
         ensures { answer_held self.new ≡ [] }
     {
         self.len = 0;
     }
 
-    // Copies `more` behind the bytes gathered, and changes no other byte; what does not fit changes nothing.
+    /// Copies `more` behind the bytes gathered, and changes no other byte; what does not fit changes nothing.
     pub fn append(&mut self, more: &[u8]) -> bool
         ensures value { result ≡ nat_le (length (answer_held self.old) + length more.now) answer_room }
         ensures gathers { answer_held self.new ≡ (if result then answer_held self.old ++ more.now else answer_held self.old) }

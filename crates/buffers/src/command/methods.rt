@@ -1,4 +1,4 @@
-// What a store of a command does.
+//! What a store of a command does.
 ghost use Rattle.std.specs.Prelude.{◌≡◌, ◌+◌, [], ◌++◌, length, if◌then◌else◌, nat_le};
 ghost use Rattle.buffers.specs.Over.{over_at};
 ghost use Rattle.buffers.specs.Rooms.{command_room};
@@ -17,21 +17,21 @@ impl CommandStore {
         }
     }
 
-    // The bytes gathered.
+    /// The bytes gathered.
     pub fn gathered(&self) -> &[u8]
         ensures { result.now ≡ command_held self.now }
     {
         &self.bytes[0..self.len]
     }
 
-    // Forgets the bytes gathered.
+    /// Forgets the bytes gathered.
     pub fn clear(&mut self)
         ensures { command_held self.new ≡ [] }
     {
         self.len = 0;
     }
 
-    // Copies `more` behind the bytes gathered, and changes no other byte; what does not fit changes nothing.
+    /// Copies `more` behind the bytes gathered, and changes no other byte; what does not fit changes nothing.
     pub fn append(&mut self, more: &[u8]) -> bool
         ensures value { result ≡ nat_le (length (command_held self.old) + length more.now) command_room }
         ensures gathers { command_held self.new ≡ (if result then command_held self.old ++ more.now else command_held self.old) }

@@ -1,4 +1,4 @@
-// How an awake card answers: waits, and the answer in parts.
+//! How an awake card answers: waits, and the answer in parts.
 ghost use Rattle.std.specs.Prelude.{◌≡◌, ◌≤◌, drop, if◌then◌else◌};
 ghost use Rattle.applications.specs.App.{longest_answer};
 ghost use Rattle.frames.specs.Sizes.{greatest_frame};
@@ -16,7 +16,7 @@ use crate::last::{LastBlock, Owed};
 use activation::size_of_code;
 use frames::CardNumber;
 
-// What is owed behind a block: the answer from `next` on, if there is more of it.
+/// What is owed behind a block: the answer from `next` on, if there is more of it.
 fn owed_behind(more: bool, next: usize) -> Owed
     ensures { result ≡ (if more then Rest next else Nothing) }
 {
@@ -28,7 +28,7 @@ fn owed_behind(more: bool, next: usize) -> Owed
 }
 
 impl AwakeCard {
-    // How much information a block to the reader has room for.
+    /// How much information a block to the reader has room for.
     fn room(&self, card: Option<CardNumber>) -> usize
         ensures value { result ≡ card_room (awake_of self.now) (cid_seen card) }
         ensures bound { result ≤ greatest_frame }
@@ -40,7 +40,7 @@ impl AwakeCard {
         }
     }
 
-    // Sends the part of the answer that begins at `from`.
+    /// Sends the part of the answer that begins at `from`.
     fn send_part(&mut self, card: Option<CardNumber>, from: usize) -> bool
         requires { from ≤ longest_answer }
         ensures { step_of self.new result ≡ sends_answer (awake_of self.old) tt self.old.number (cid_seen card) (drop from (answer_of self.old.answer)) }
@@ -60,7 +60,7 @@ impl AwakeCard {
         self.send(owed_behind(chaining, next), part)
     }
 
-    // Asks for a wait if there are any left, and else sends the answer's first part.
+    /// Asks for a wait if there are any left, and else sends the answer's first part.
     pub fn ask_or_answer(&mut self, card: Option<CardNumber>, left: u8, multiplier: u8) -> bool
         ensures { step_of self.new result ≡ asks_or_answers (awake_of self.old) tt self.old.number (cid_seen card) left multiplier (answer_of self.old.answer) }
     {
@@ -72,7 +72,7 @@ impl AwakeCard {
         self.send(owes, LastBlock::Waiting { multiplier, card })
     }
 
-    // A wait with the multiplier asked for ends one wait.
+    /// A wait with the multiplier asked for ends one wait.
     pub fn take_wait(&mut self, multiplier: u8, card: Option<CardNumber>) -> bool
         ensures { step_of self.new result ≡ on_wait (awake_of self.old) tt (awake_of self.old).owes multiplier (cid_seen card) }
     {
@@ -87,7 +87,7 @@ impl AwakeCard {
         }
     }
 
-    // The answer's next part, if it is begun and unfinished.
+    /// The answer's next part, if it is begun and unfinished.
     fn send_next(&mut self, card: Option<CardNumber>) -> bool
         requires { Fit (awake_of self.old) }
         ensures { step_of self.new result ≡ on_next (awake_of self.old) tt (awake_of self.old).owes (cid_seen card) }
@@ -101,7 +101,7 @@ impl AwakeCard {
         }
     }
 
-    // R of equal number, R(NAK) and R(ACK) of the other.
+    /// R of equal number, R(NAK) and R(ACK) of the other.
     pub fn take_r(&mut self, nak: bool, number: bool, card: Option<CardNumber>) -> bool
         requires { Fit (awake_of self.old) }
         ensures { step_of self.new result ≡ on_r (awake_of self.old) tt nak (same number self.old.number) (cid_seen card) }

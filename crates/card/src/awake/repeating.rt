@@ -1,4 +1,4 @@
-// The last block of an awake card, written from what the card keeps of it.
+//! The last block of an awake card, written from what the card keeps of it.
 ghost use Rattle.std.specs.Prelude.{◌≡◌, ◌≤◌, length};
 ghost use Rattle.frames.specs.Sizes.{greatest_frame};
 ghost use Rattle.card.specs.Fit.{FitSent};
@@ -11,28 +11,28 @@ use crate::writing::write_fit;
 use frames::Block;
 
 impl AwakeCard {
-    // The card's number.
+    /// The card's number.
     pub fn cid(&self) -> u8
         ensures { result ≡ self.now.cid }
     {
         self.cid
     }
 
-    // The code of the divisor at which the card sends.
+    /// The code of the divisor at which the card sends.
     pub fn dsi(&self) -> u8
         ensures { result ≡ self.now.dsi }
     {
         self.dsi
     }
 
-    // The code of the divisor at which the card listens.
+    /// The code of the divisor at which the card listens.
     pub fn dri(&self) -> u8
         ensures { result ≡ self.now.dri }
     {
         self.dri
     }
 
-    // Writes the frame of the last block, if there is one, and answers its length.
+    /// Writes the frame of the last block, if there is one, and answers its length.
     pub fn write_last(&self, out: &mut [u8]) -> Option<usize>
         requires fit { FitSent (awake_of self.now).last }
         requires room { greatest_frame ≤ length out.old }

@@ -1,4 +1,4 @@
-// What an awake card does at each frame.
+//! What an awake card does at each frame.
 ghost use Rattle.std.specs.Prelude.{◌≡◌, ◌<◌, length};
 ghost use Rattle.activation.specs.Views.{pps_seen};
 ghost use Rattle.applications.specs.App.{IsCommand};
@@ -23,7 +23,7 @@ use applications::Application;
 use frames::{Block, CardNumber};
 
 impl AwakeCard {
-    // The PPS that is to be answered: the window is open, it fits the card's number, and its rates are offered.
+    /// The PPS that is to be answered: the window is open, it fits the card's number, and its rates are offered.
     fn pps_in(&self, settings: &CardSettings, frame: &[u8]) -> Option<Pps>
         ensures { pps_seen result ≡ chosen (settings_of settings.now) (pps_in (settings_of settings.now) (awake_of self.now) (open_frame (size_of settings.now.fsci) frame.now)) }
     {
@@ -36,7 +36,7 @@ impl AwakeCard {
         }
     }
 
-    // Gives the command to the application. Its waits, and its answer, are owed.
+    /// Gives the command to the application. Its waits, and its answer, are owed.
     fn give<A: Application>(&mut self, application: &mut A, card: Option<CardNumber>) -> Step
         requires { IsCommand (awake_of self.old).gathered }
         ensures { step_told self.new application.new result ≡ told_of (gives A.Application.model (awake_of self.old) application.old self.old.number (cid_seen card) (awake_of self.old).gathered) }
@@ -48,8 +48,8 @@ impl AwakeCard {
         }
     }
 
-    // Takes the information of an I-block while nothing is owed: toggles, and acknowledges or gives. Past the longest command
-    // the block is ignored.
+    /// Takes the information of an I-block while nothing is owed: toggles, and acknowledges or gives. Past the longest command
+    /// the block is ignored.
     fn gather<A: Application>(
         &mut self,
         application: &mut A,
@@ -70,7 +70,7 @@ impl AwakeCard {
         self.give(application, reply_number(card))
     }
 
-    // An I-block is ignored while something is owed.
+    /// An I-block is ignored while something is owed.
     fn take_information<A: Application>(
         &mut self,
         application: &mut A,
@@ -87,7 +87,7 @@ impl AwakeCard {
         }
     }
 
-    // Every valid block by its kind. Deselect is answered, and the card is to fall silent.
+    /// Every valid block by its kind. Deselect is answered, and the card is to fall silent.
     fn take_block<A: Application>(&mut self, application: &mut A, block: Block<'_>) -> Taken
         requires valid { ValidBlock (block_seen block) }
         requires fit { Fit (awake_of self.old) }
@@ -117,7 +117,7 @@ impl AwakeCard {
         }
     }
 
-    // Every frame: a PPS that is offered while its window is open, else a block.
+    /// Every frame: a PPS that is offered while its window is open, else a block.
     pub fn take<A: Application>(
         &mut self,
         settings: &CardSettings,

@@ -1,4 +1,4 @@
-// How an awake card turns from one frame to the next.
+//! How an awake card turns from one frame to the next.
 ghost use Rattle.std.specs.Prelude.{◌≡◌, false};
 ghost use Rattle.frames.specs.Blocks.{r_block};
 ghost use Rattle.frames.specs.Views.{cid_seen};
@@ -13,7 +13,7 @@ use activation::{Pps, Rats};
 use buffers::CommandStore;
 use frames::CardNumber;
 
-// A reply has the card's number where the block had it, with power level 00.
+/// A reply has the card's number where the block had it, with power level 00.
 pub fn reply_number(card: Option<CardNumber>) -> Option<CardNumber>
     ensures { cid_seen result ≡ answer_cid (cid_seen card) }
 {
@@ -27,7 +27,7 @@ pub fn reply_number(card: Option<CardNumber>) -> Option<CardNumber>
 }
 
 impl AwakeCard {
-    // A card that this RATS has woken.
+    /// A card that this RATS has woken.
     pub fn woken(rats: Rats) -> AwakeCard
         ensures { awake_of result ≡ woken rats.fsdi rats.cid }
     {
@@ -45,7 +45,7 @@ impl AwakeCard {
         }
     }
 
-    // The rates of a PPS hold from now on.
+    /// The rates of a PPS hold from now on.
     pub fn change(&mut self, pps: Pps)
         ensures { awake_of self.new ≡ changed (awake_of self.old) pps.dsi pps.dri }
     {
@@ -54,7 +54,7 @@ impl AwakeCard {
         self.dri = pps.dri;
     }
 
-    // Nothing is sent; the window for PPS is closed.
+    /// Nothing is sent; the window for PPS is closed.
     pub fn stay_quiet(&mut self) -> bool
         ensures { step_of self.new result ≡ remains (awake (shut (awake_of self.old))) tt quiet }
     {
@@ -62,7 +62,7 @@ impl AwakeCard {
         false
     }
 
-    // The last block is sent once more, if there is one.
+    /// The last block is sent once more, if there is one.
     pub fn send_again(&mut self) -> bool
         ensures { step_of self.new result ≡ sends_again (awake_of self.old) tt (awake_of self.old).last }
     {
@@ -70,7 +70,7 @@ impl AwakeCard {
         true
     }
 
-    // Sends a block and keeps it as the last one; behind it this is owed.
+    /// Sends a block and keeps it as the last one; behind it this is owed.
     pub fn send(&mut self, owes: Owed, last: LastBlock) -> bool
         ensures { step_of self.new result ≡ remains (awake (turned (awake_of self.old) self.old.number (awake_of self.old).gathered (owed_of owes (answer_of self.old.answer)) (last_of last (answer_of self.old.answer)))) tt (again (last_of last (answer_of self.old.answer))) }
     {
@@ -80,7 +80,7 @@ impl AwakeCard {
         true
     }
 
-    // R(ACK) with the card's block number.
+    /// R(ACK) with the card's block number.
     pub fn acknowledge(&mut self, card: Option<CardNumber>) -> bool
         ensures { step_of self.new result ≡ sends (awake_of self.old) tt self.old.number (awake_of self.old).gathered (awake_of self.old).owes (r_block false self.old.number (cid_seen card)) }
     {

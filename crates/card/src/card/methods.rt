@@ -1,4 +1,4 @@
-// The card's calls.
+//! The card's calls.
 ghost use Rattle.std.specs.Prelude.{◌≡◌, length};
 ghost use Rattle.protocol.specs.Field.{hears_at, sends_at};
 ghost use Rattle.card.specs.Held.{card_of};
@@ -12,7 +12,7 @@ use applications::Application;
 use frames::{GREATEST_FRAME, Refusal};
 
 impl<A: Application> Card<A> {
-    // A card that sleeps. Settings out of range are refused, and the application is handed back.
+    /// A card that sleeps. Settings out of range are refused, and the application is handed back.
     pub fn new(settings: CardSettings, application: A) -> Result<Card<A>, (A, Refusal)>
         ensures { Built settings application result }
     {
@@ -26,7 +26,7 @@ impl<A: Application> Card<A> {
         })
     }
 
-    // Takes a frame as heard, whatever it is. An answer is written to the front of `out`.
+    /// Takes a frame as heard, whatever it is. An answer is written to the front of `out`.
     pub fn hear(&mut self, frame: &[u8], out: &mut [u8]) -> Result<Response, Refusal>
         ensures value { result ≡ hearing (move_at A.Application.model self.old frame.now) (length out.old) }
         ensures card { card_of self.new.state ≡ card_heard (move_at A.Application.model self.old frame.now) (length out.old) (card_of self.old.state) }
@@ -47,14 +47,14 @@ impl<A: Application> Card<A> {
         })
     }
 
-    // The code of the divisor at which the card listens.
+    /// The code of the divisor at which the card listens.
     pub fn listens_at(&self) -> u8
         ensures { result ≡ hears_at (card_of self.now.state) }
     {
         self.state.listens_at()
     }
 
-    // The code of the divisor at which the card sends.
+    /// The code of the divisor at which the card sends.
     pub fn sends_at(&self) -> u8
         ensures { result ≡ sends_at (card_of self.now.state) }
     {

@@ -1,4 +1,4 @@
-// What an R(ACK) does. A rule that no limit bears on has 0 for the limits in its contract.
+//! What an R(ACK) does. A rule that no limit bears on has 0 for the limits in its contract.
 ghost use Rattle.std.specs.Prelude.{◌≡◌, ◌≤◌, length};
 ghost use Rattle.frames.specs.Sizes.{greatest_frame};
 ghost use Rattle.protocol.specs.Reader.{running, more, same, on_equal, on_other, on_ack};
@@ -12,7 +12,7 @@ use crate::report::Ending;
 use crate::turn::{Limits, Turn};
 
 impl Exchange {
-    // R(ACK) of equal number: the next part, if there is one.
+    /// R(ACK) of equal number: the next part, if there is one.
     fn on_equal(&mut self, out: &mut [u8]) -> Turn
         requires running { progress_seen self.old.progress ≡ running }
         requires room { greatest_frame ≤ length out.old }
@@ -25,7 +25,7 @@ impl Exchange {
         Turn::Wrote(self.send_part(out))
     }
 
-    // R(ACK) of the other number: the part again, unless the answer has begun.
+    /// R(ACK) of the other number: the part again, unless the answer has begun.
     fn on_other(&mut self, limits: Limits, out: &mut [u8]) -> Turn
         requires running { progress_seen self.old.progress ≡ running }
         requires room { greatest_frame ≤ length out.old }
@@ -43,7 +43,7 @@ impl Exchange {
         Turn::Wrote(self.send_part(out))
     }
 
-    // R(ACK), by its number.
+    /// R(ACK), by its number.
     pub(super) fn on_ack(&mut self, limits: Limits, number: bool, out: &mut [u8]) -> Turn
         requires running { progress_seen self.old.progress ≡ running }
         requires room { greatest_frame ≤ length out.old }

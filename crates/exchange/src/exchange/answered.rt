@@ -1,4 +1,4 @@
-// What an I-block does. No limit bears on it: its rules have 0 for the limits in their contracts.
+//! What an I-block does. No limit bears on it: its rules have 0 for the limits in their contracts.
 ghost use Rattle.std.specs.Prelude.{◌≡◌, ◌<◌, ◌≤◌, not, ◌++◌, length};
 ghost use Rattle.buffers.specs.Rooms.{answer_room};
 ghost use Rattle.frames.specs.Check.{both};
@@ -15,7 +15,7 @@ use crate::turn::Turn;
 use frames::Block;
 
 impl Exchange {
-    // The answer's next block, chaining or last.
+    /// The answer's next block, chaining or last.
     fn on_answer(&mut self, chaining: bool, information: &[u8], out: &mut [u8]) -> Turn
         requires running { progress_seen self.old.progress ≡ running }
         requires some { 0 < length information.now }
@@ -35,7 +35,7 @@ impl Exchange {
         Turn::Wrote(self.send(block, out))
     }
 
-    // An I-block: a part of the answer, if its number is equal and the command all sent, unless the answer gets too long.
+    /// An I-block: a part of the answer, if its number is equal and the command all sent, unless the answer gets too long.
     pub(super) fn on_information(
         &mut self,
         chaining: bool,

@@ -1,4 +1,4 @@
-// The exchange after a part of the answer.
+//! The exchange after a part of the answer.
 ghost use Rattle.std.specs.Prelude.{◌≡◌, ◌<◌, ◌≤◌, ◌++◌, length};
 ghost use Rattle.buffers.specs.Rooms.{answer_room};
 ghost use Rattle.buffers.specs.Stores.{answer_held};
@@ -11,7 +11,7 @@ use crate::progress::Progress;
 use crate::report::NO_CAUSE;
 
 impl Exchange {
-    // A chaining I-block of equal number: its information is appended, and R(ACK) is to go out, fresh.
+    /// A chaining I-block of equal number: its information is appended, and R(ACK) is to go out, fresh.
     pub(super) fn append(&mut self, information: &[u8])
         requires running { progress_seen self.old.progress ≡ running }
         requires some { 0 < length information.now }
@@ -28,7 +28,7 @@ impl Exchange {
         self.came = true;
     }
 
-    // The last I-block: the answer is all there.
+    /// The last I-block: the answer is all there.
     pub(super) fn complete(&mut self, information: &[u8])
         requires running { progress_seen self.old.progress ≡ running }
         requires fits { length (answer_held self.old.answer ++ information.now) ≤ answer_room }

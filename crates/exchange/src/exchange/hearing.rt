@@ -1,4 +1,4 @@
-// What is heard in an exchange, rule by rule.
+//! What is heard in an exchange, rule by rule.
 ghost use Rattle.std.specs.Prelude.{◌≡◌, ◌<◌, ◌≤◌, length};
 ghost use Rattle.frames.specs.Blocks.{ValidBlock};
 ghost use Rattle.frames.specs.Faults.{cause_seen};
@@ -18,7 +18,7 @@ use crate::turn::{Limits, Turn};
 use frames::{Block, Cause, GREATEST_FRAME, Refusal};
 
 impl Exchange {
-    // Silence, or an invalid block: ask again, with R(NAK), or with R(ACK) once the answer's first block is in.
+    /// Silence, or an invalid block: ask again, with R(NAK), or with R(ACK) once the answer's first block is in.
     fn on_invalid(&mut self, limits: Limits, cause: Cause, out: &mut [u8]) -> Turn
         requires running { progress_seen self.old.progress ≡ running }
         requires room { greatest_frame ≤ length out.old }
@@ -32,7 +32,7 @@ impl Exchange {
         Turn::Wrote(self.send(block, out))
     }
 
-    // A wait is answered with its multiplier, up to the limit.
+    /// A wait is answered with its multiplier, up to the limit.
     fn on_wait(&mut self, limits: Limits, multiplier: u8, out: &mut [u8]) -> Turn
         requires running { progress_seen self.old.progress ≡ running }
         requires low { 0 < multiplier }
@@ -49,7 +49,7 @@ impl Exchange {
         Turn::Wrote(self.send(block, out))
     }
 
-    // A block by its kind.
+    /// A block by its kind.
     fn on_block(&mut self, limits: Limits, block: Block<'_>, out: &mut [u8]) -> Turn
         requires running { progress_seen self.old.progress ≡ running }
         requires valid { ValidBlock (block_seen block) }
@@ -70,7 +70,7 @@ impl Exchange {
         }
     }
 
-    // What was heard after the last frame, or silence. A frame of the exchange is written to the front of `out`.
+    /// What was heard after the last frame, or silence. A frame of the exchange is written to the front of `out`.
     pub fn hear(&mut self, limits: Limits, heard: Option<&[u8]>, out: &mut [u8]) -> Turn
         ensures { Does (hearing limits (link_seen self.old.link) (exchange_seen self.old) (event_seen heard.entry) (length out.old)) self.new result out.old out.new }
     {

@@ -1,4 +1,4 @@
-// What an exchange tells.
+//! What an exchange tells.
 ghost use Rattle.std.specs.Prelude.{◌≡◌};
 ghost use Rattle.protocol.specs.Reader.{blank_exchange, say_of, more};
 ghost use Rattle.exchange.specs.Exchanges.{exchange_seen};
@@ -11,7 +11,7 @@ use crate::report::{NO_CAUSE, Report, Says, Totals};
 use buffers::{AnswerStore, CommandStore};
 
 impl Exchange {
-    // Before a command.
+    /// Before a command.
     pub fn new(link: Link) -> Exchange
         ensures blank { exchange_seen result ≡ blank_exchange }
         ensures link { result.link ≡ link }
@@ -36,21 +36,21 @@ impl Exchange {
         }
     }
 
-    // The link that the exchange goes over.
+    /// The link that the exchange goes over.
     pub fn link(&self) -> Link
         ensures { result ≡ self.now.link }
     {
         self.link
     }
 
-    // There is more of the command behind the part in the last block.
+    /// There is more of the command behind the part in the last block.
     pub(super) fn has_more(&self) -> bool
         ensures { result ≡ more (exchange_seen self.now).rest }
     {
         self.command.gathered().len() > self.from + self.link.room()
     }
 
-    // What the reader says of its command: the first that fits.
+    /// What the reader says of its command: the first that fits.
     pub fn says(&self) -> Says
         ensures { says_seen result ≡ say_of (exchange_seen self.now).progress (exchange_seen self.now) }
     {
@@ -63,14 +63,14 @@ impl Exchange {
         }
     }
 
-    // The frames written so far.
+    /// The frames written so far.
     pub fn totals(&self) -> Totals
         ensures { totals_seen result ≡ (exchange_seen self.now).totals }
     {
         self.totals
     }
 
-    // What there is to be told.
+    /// What there is to be told.
     pub fn report(&self) -> Report
         ensures says { says_seen result.says ≡ say_of (exchange_seen self.now).progress (exchange_seen self.now) }
         ensures totals { totals_seen result.totals ≡ (exchange_seen self.now).totals }
@@ -81,7 +81,7 @@ impl Exchange {
         }
     }
 
-    // The answer's bytes gathered so far.
+    /// The answer's bytes gathered so far.
     pub fn answer(&self) -> &[u8]
         ensures { result.now ≡ (exchange_seen self.now).answer }
     {

@@ -1,4 +1,4 @@
-// The reader's blocks, as they go out, and how an exchange ends.
+//! The reader's blocks, as they go out, and how an exchange ends.
 ghost use Rattle.std.specs.Prelude.{◌≡◌, ℕ, ◌≤◌, true, List, length};
 ghost use Rattle.frames.specs.Sizes.{greatest_frame};
 ghost use Rattle.frames.specs.Views.{block_seen};
@@ -16,7 +16,7 @@ use crate::turn::{Sent, Turn};
 use frames::{Block, write_block};
 
 impl Exchange {
-    // Writes the frame of a block that can be sent, so that writing it does not fail.
+    /// Writes the frame of a block that can be sent, so that writing it does not fail.
     pub(super) fn send(&self, block: Block<'_>, out: &mut [u8]) -> Sent
         requires running { progress_seen self.now.progress ≡ running }
         requires range { in_range (block_seen block) ≡ true }
@@ -30,7 +30,7 @@ impl Exchange {
         }
     }
 
-    // The part of the command in the last block.
+    /// The part of the command in the last block.
     fn part(&self) -> &[u8]
         requires { progress_seen self.now.progress ≡ running }
         ensures { result.now ≡ (exchange_seen self.now).part }
@@ -40,7 +40,7 @@ impl Exchange {
         &command[self.from..end]
     }
 
-    // Writes the frame of the last block.
+    /// Writes the frame of the last block.
     pub(super) fn send_part(&self, out: &mut [u8]) -> Sent
         requires running { progress_seen self.now.progress ≡ running }
         requires room { greatest_frame ≤ length out.old }
@@ -51,7 +51,7 @@ impl Exchange {
         self.send(block, out)
     }
 
-    // The exchange ends against the reader's will.
+    /// The exchange ends against the reader's will.
     pub(super) fn over(&self, ending: Ending) -> Turn
         requires { progress_seen self.now.progress ≡ running }
         ensures { (buffer : List ℕ) → Does (ends (link_seen self.now.link) (exchange_seen self.now) (ending_seen ending)) self.now result buffer buffer }

@@ -1,4 +1,4 @@
-// The exchange after each event but a part of the answer.
+//! The exchange after each event but a part of the answer.
 ghost use Rattle.std.specs.Prelude.{◌≡◌, ◌<◌, true};
 ghost use Rattle.frames.specs.Faults.{cause_seen};
 ghost use Rattle.protocol.specs.Reader.{running, more, or_else, is_command, begun, next_part, repeated, rewritten, granted, shown};
@@ -10,7 +10,7 @@ use crate::progress::Progress;
 use crate::report::{NO_CAUSE, Totals};
 use frames::Cause;
 
-// One of two.
+/// One of two.
 fn either(a: bool, b: bool) -> bool
     ensures { result ≡ or_else a b }
 {
@@ -18,7 +18,7 @@ fn either(a: bool, b: bool) -> bool
 }
 
 impl Exchange {
-    // A command: the answer is emptied, and the first part is to go out.
+    /// A command: the answer is emptied, and the first part is to go out.
     pub(super) fn load(&mut self, command: &[u8])
         requires { is_command command.now ≡ true }
         ensures seen { exchange_seen self.new ≡ begun (room_for self.old.link) self.old.number command.now }
@@ -41,7 +41,7 @@ impl Exchange {
         self.came = false;
     }
 
-    // R(ACK) of equal number: the next part is to go out, fresh.
+    /// R(ACK) of equal number: the next part is to go out, fresh.
     pub(super) fn advance(&mut self)
         requires running { progress_seen self.old.progress ≡ running }
         requires left { more (exchange_seen self.old).rest ≡ true }
@@ -57,7 +57,7 @@ impl Exchange {
         self.other = false;
     }
 
-    // Silence or an invalid block: a repeat.
+    /// Silence or an invalid block: a repeat.
     pub(super) fn repeat(&mut self, why: Cause)
         requires running { progress_seen self.old.progress ≡ running }
         requires left { self.old.since < 255 }
@@ -69,7 +69,7 @@ impl Exchange {
         self.why = why;
     }
 
-    // R(ACK) of the other number: the part is to be written again, a repeat.
+    /// R(ACK) of the other number: the part is to be written again, a repeat.
     pub(super) fn rewrite(&mut self)
         requires running { progress_seen self.old.progress ≡ running }
         requires left { self.old.since < 255 }
@@ -82,7 +82,7 @@ impl Exchange {
         self.other = false;
     }
 
-    // A wait is granted; it is neither fresh nor a repeat.
+    /// A wait is granted; it is neither fresh nor a repeat.
     pub(super) fn grant(&mut self, multiplier: u8)
         requires running { progress_seen self.old.progress ≡ running }
         requires left { self.old.totals.waits < 255 }
@@ -94,7 +94,7 @@ impl Exchange {
         self.stretch = multiplier;
     }
 
-    // The exchange ends here, with what the last block showed of the command.
+    /// The exchange ends here, with what the last block showed of the command.
     pub(super) fn show(&mut self, other: bool, came: bool)
         requires { progress_seen self.old.progress ≡ running }
         ensures seen { exchange_seen self.new ≡ shown other came (exchange_seen self.old) }

@@ -1,4 +1,4 @@
-// What a link tells.
+//! What a link tells.
 ghost use Rattle.std.specs.Prelude.{◌≡◌, ◌*◌, ◌^◌, ◌<◌, true, if◌then◌else◌, nat_eq};
 ghost use Rattle.activation.specs.Views.{said_by};
 ghost use Rattle.frames.specs.Blocks.{numbered, without};
@@ -13,22 +13,22 @@ use super::Link;
 use activation::{Ats, size_of_code};
 use frames::{Agreed, CardNumber};
 
-// The bit of TC by which a card supports card numbers.
+/// The bit of TC by which a card supports card numbers.
 const CARD_NUMBERS: u8 = 0x02;
 
-// Card numbers are below this.
+/// Card numbers are below this.
 const NUMBERS: u8 = 15;
 
-// The waiting time of the code 0, in carrier cycles.
+/// The waiting time of the code 0, in carrier cycles.
 const LEAST_TIME: u64 = 4096;
 
-// The longest time that a reader listens.
+/// The longest time that a reader listens.
 const LONGEST_TIME: u64 = 67_108_864;
 
-// The control byte and the check, which a frame has besides information.
+/// The control byte and the check, which a frame has besides information.
 const BARE: usize = 3;
 
-// The card number in the reader's blocks, with power level 00, if the card supports card numbers.
+/// The card number in the reader's blocks, with power level 00, if the card supports card numbers.
 fn card_for(tc: u8, number: u8) -> Option<CardNumber>
     requires { number < 15 }
     ensures value { cid_seen result ≡ (if has 0x02 tc then numbered number 0 else without) }
@@ -41,7 +41,7 @@ fn card_for(tc: u8, number: u8) -> Option<CardNumber>
     }
 }
 
-// The waiting time of a code, in carrier cycles.
+/// The waiting time of a code, in carrier cycles.
 fn waiting_time(fwi: u8) -> u64
     requires { fwi < 15 }
     ensures { result ≡ 4096 * 2 ^ fwi }
@@ -50,7 +50,7 @@ fn waiting_time(fwi: u8) -> u64
 }
 
 impl Link {
-    // The link that an ATS gives at divisor 1, for the card of this number; none where a value is reserved.
+    /// The link that an ATS gives at divisor 1, for the card of this number; none where a value is reserved.
     pub fn of(ats: Ats<'_>, number: u8) -> Option<Link>
         ensures { link_made result ≡ link_for (said_by ats.entry) number }
     {
@@ -70,35 +70,35 @@ impl Link {
         })
     }
 
-    // The card number in the reader's blocks.
+    /// The card number in the reader's blocks.
     pub fn card(self) -> Option<CardNumber>
         ensures { cid_seen result ≡ (link_seen self).cid }
     {
         self.card
     }
 
-    // The divisors that the card offers, as TA has them.
+    /// The divisors that the card offers, as TA has them.
     pub fn ta(self) -> u8
         ensures { result ≡ (link_seen self).ta }
     {
         self.ta
     }
 
-    // The code of the divisor in use from the card.
+    /// The code of the divisor in use from the card.
     pub fn dsi(self) -> u8
         ensures { result ≡ (link_seen self).dsi }
     {
         self.dsi
     }
 
-    // The code of the divisor in use to the card.
+    /// The code of the divisor in use to the card.
     pub fn dri(self) -> u8
         ensures { result ≡ (link_seen self).dri }
     {
         self.dri
     }
 
-    // Which card numbers the reader takes in the card's blocks.
+    /// Which card numbers the reader takes in the card's blocks.
     pub fn agreed(self) -> Agreed
         ensures { agreement result ≡ agreed_of (link_seen self).cid }
     {
@@ -108,7 +108,7 @@ impl Link {
         }
     }
 
-    // How much information a block to the card carries at most.
+    /// How much information a block to the card carries at most.
     pub fn room(self) -> usize
         ensures { result ≡ room_of (link_seen self).fsc (link_seen self).cid }
     {
@@ -118,7 +118,7 @@ impl Link {
         }
     }
 
-    // For how many carrier cycles to listen while a wait of this multiplier holds, 0 being none.
+    /// For how many carrier cycles to listen while a wait of this multiplier holds, 0 being none.
     pub fn listening(self, stretch: u8) -> u32
         ensures { result ≡ listening (link_seen self) stretch }
     {
@@ -127,7 +127,7 @@ impl Link {
     }
 }
 
-// What a wait's multiplier makes of the waiting time.
+/// What a wait's multiplier makes of the waiting time.
 fn factor(stretch: u8) -> u64
     ensures { result ≡ (if nat_eq stretch 0 then 1 else stretch) }
 {

@@ -1,4 +1,4 @@
-// What can be heard of the card, and by whom.
+//! What can be heard of the card, and by whom.
 ghost use Rattle.std.specs.Prelude.{◌≡◌};
 ghost use Rattle.protocol.specs.Card.{quiet};
 ghost use Rattle.exchange.specs.Listening.{event_seen};
@@ -8,7 +8,7 @@ use super::Air;
 use frames::GREATEST_FRAME;
 
 impl Air {
-    // There is nothing to hear.
+    /// There is nothing to hear.
     pub fn new() -> Air
         ensures { reply_seen result ≡ quiet }
     {
@@ -18,14 +18,14 @@ impl Air {
         }
     }
 
-    // There is no more reply to hear.
+    /// There is no more reply to hear.
     pub fn hush(&mut self)
         ensures { reply_seen self.new ≡ quiet }
     {
         self.reply = None;
     }
 
-    // The reply, if there is one.
+    /// The reply, if there is one.
     pub fn heard(&self) -> Option<&[u8]>
         ensures { event_seen result ≡ event_in (reply_seen self.now) }
     {

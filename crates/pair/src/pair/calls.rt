@@ -1,4 +1,4 @@
-// The calls on a pair.
+//! The calls on a pair.
 ghost use Rattle.std.specs.Prelude.{◌≡◌, length};
 ghost use Rattle.protocol.specs.Field.{move_of};
 ghost use Rattle.pair.specs.Deeds.{call_for};
@@ -12,7 +12,7 @@ use crate::outcome::{Answer, Outcome};
 use applications::Application;
 
 impl<A: Application> Pair<A> {
-    // The reader's part of a call.
+    /// The reader's part of a call.
     fn read(&mut self, call: Call<'_>, out: &mut [u8]) -> Outcome
         ensures reads { Reads (setup_seen A.Application.model self.old).reader (move_of (setup_seen A.Application.model self.old) (world_seen self.old) (call_for (world_seen self.old) (length out.old) (deed_seen call.entry))) self.new.reader result out.old out.new }
         ensures card { self.new.card ≡ self.old.card }
@@ -31,7 +31,7 @@ impl<A: Application> Pair<A> {
         }
     }
 
-    // One call, with the fate of the frame that it writes.
+    /// One call, with the fate of the frame that it writes.
     pub fn call(&mut self, call: Call<'_>, fate: Fate, out: &mut [u8]) -> Answer
         ensures { Steps A.Application.model (act_seen call.entry fate) self.old self.new result out.old out.new }
     {

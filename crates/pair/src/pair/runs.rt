@@ -1,4 +1,4 @@
-// Many calls on a pair.
+//! Many calls on a pair.
 ghost use Rattle.pair.specs.Records.{RunsInto, Runs};
 
 use super::Pair;
@@ -8,8 +8,8 @@ use applications::Application;
 use std::alloc::{AllocError, Global};
 
 impl<A: Application> Pair<A> {
-    // The calls in time order; what is kept of each goes behind the records. Room for all of it is asked for first. If memory
-    // is refused, nothing has happened; where there is room already, it is not refused.
+    /// The calls in time order; what is kept of each goes behind the records. Room for all of it is asked for first. If memory
+    /// is refused, nothing has happened; where there is room already, it is not refused.
     pub fn run_into(
         &mut self,
         steps: &[Step<'_>],
@@ -24,7 +24,7 @@ impl<A: Application> Pair<A> {
         Ok(())
     }
 
-    // The same with records of its own.
+    /// The same with records of its own.
     pub fn run(&mut self, heap: Global, steps: &[Step<'_>]) -> Result<Vec<Record>, AllocError>
         ensures { Runs A.Application.model steps.now self.old self.new result }
     {

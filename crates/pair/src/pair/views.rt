@@ -1,4 +1,4 @@
-// A pair, made and looked at.
+//! A pair, made and looked at.
 ghost use Rattle.std.specs.Prelude.{◌≡◌};
 ghost use Rattle.exchange.specs.Views.{says_seen};
 ghost use Rattle.protocol.specs.Reader.{says as says_in};
@@ -15,8 +15,8 @@ use reader::Session;
 use stages::Settings;
 
 impl<A: Application> Pair<A> {
-    // A reader that has asked nothing and a card that sleeps. Settings out of range are refused, and the application is
-    // handed back.
+    /// A reader that has asked nothing and a card that sleeps. Settings out of range are refused, and the application is
+    /// handed back.
     pub fn new(
         settings: Settings,
         card: CardSettings,
@@ -38,14 +38,14 @@ impl<A: Application> Pair<A> {
         }
     }
 
-    // What the reader says of its command.
+    /// What the reader says of its command.
     pub fn says(&self) -> Says
         ensures { says_seen result ≡ says_in (world_seen self.now).reader }
     {
         self.reader.says()
     }
 
-    // The application on the card.
+    /// The application on the card.
     pub fn application(&self) -> &A
         ensures { result.now ≡ (world_seen self.now).state }
     {

@@ -1,4 +1,4 @@
-// A call, kept.
+//! A call, kept.
 ghost use Rattle.std.specs.Prelude.{◌≡◌, take};
 ghost use Rattle.pair.specs.Answers.{size_in};
 ghost use Rattle.pair.specs.Records.{blank as blank_bytes, step_seen, Kept};
@@ -11,7 +11,7 @@ use applications::Application;
 use buffers::ANSWER_ROOM;
 
 impl Record {
-    // A buffer of zeros, and no answer yet.
+    /// A buffer of zeros, and no answer yet.
     fn blank() -> Record
         ensures { result.bytes ≡ blank_bytes }
     {
@@ -24,7 +24,7 @@ impl Record {
         }
     }
 
-    // One call on a pair, and what is kept of it.
+    /// One call on a pair, and what is kept of it.
     pub fn of<A: Application>(pair: &mut Pair<A>, step: Step<'_>) -> Record
         ensures { Kept A.Application.model (step_seen step.entry) pair.old pair.new result }
     {
@@ -33,7 +33,7 @@ impl Record {
         record
     }
 
-    // The frame written or the answer fetched.
+    /// The frame written or the answer fetched.
     pub fn front(&self) -> &[u8]
         ensures { result.now ≡ take (size_in self.now.answer.outcome) self.now.bytes }
     {

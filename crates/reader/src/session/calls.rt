@@ -1,4 +1,4 @@
-// The calls of a session.
+//! The calls of a session.
 ghost use Rattle.std.specs.Prelude.{[]};
 ghost use Rattle.protocol.specs.Reader.{ask as asks, start as starts, begin as begins, heard as hears, silent as hears_nothing, give_up as gives_up, close as closes};
 ghost use Rattle.stages.specs.Calls.{Does, Turns};
@@ -10,7 +10,7 @@ use frames::Refusal;
 use stages::Outcome;
 
 impl Session {
-    // Writes RATS.
+    /// Writes RATS.
     pub fn ask<'a>(&mut self, out: &mut [u8]) -> Outcome<'a>
         ensures { Does (settings_of self.old) (session_seen self.old) asks (after_call self.new result out.new) out.old out.new }
     {
@@ -34,7 +34,7 @@ impl Session {
         }
     }
 
-    // Makes a woken session active.
+    /// Makes a woken session active.
     pub fn start<'a>(&mut self) -> Outcome<'a>
         ensures { Turns (settings_of self.old) (session_seen self.old) starts (after_call self.new result []) }
     {
@@ -50,7 +50,7 @@ impl Session {
         }
     }
 
-    // Takes a command, and writes its first block.
+    /// Takes a command, and writes its first block.
     pub fn begin<'a>(&mut self, command: &[u8], out: &mut [u8]) -> Outcome<'a>
         ensures { Does (settings_of self.old) (session_seen self.old) (begins command.now) (after_call self.new result out.new) out.old out.new }
     {
@@ -74,7 +74,7 @@ impl Session {
         }
     }
 
-    // A frame was heard.
+    /// A frame was heard.
     pub fn heard<'a>(&mut self, frame: &'a [u8], out: &mut [u8]) -> Outcome<'a>
         ensures { Does (settings_of self.old) (session_seen self.old) (hears frame.now) (after_call self.new result out.new) out.old out.new }
     {
@@ -101,7 +101,7 @@ impl Session {
         }
     }
 
-    // Nothing was heard for as long as the reader had to listen.
+    /// Nothing was heard for as long as the reader had to listen.
     pub fn silent<'a>(&mut self, out: &mut [u8]) -> Outcome<'a>
         ensures { Does (settings_of self.old) (session_seen self.old) hears_nothing (after_call self.new result out.new) out.old out.new }
     {
@@ -128,7 +128,7 @@ impl Session {
         }
     }
 
-    // The host gives an exchange up.
+    /// The host gives an exchange up.
     pub fn give_up<'a>(&mut self) -> Outcome<'a>
         ensures { Turns (settings_of self.old) (session_seen self.old) gives_up (after_call self.new result []) }
     {
@@ -145,7 +145,7 @@ impl Session {
         }
     }
 
-    // Writes deselect.
+    /// Writes deselect.
     pub fn close<'a>(&mut self, out: &mut [u8]) -> Outcome<'a>
         ensures { Does (settings_of self.old) (session_seen self.old) closes (after_call self.new result out.new) out.old out.new }
     {

@@ -1,4 +1,4 @@
-// From one stage to the next.
+//! From one stage to the next.
 ghost use Rattle.std.specs.Prelude.{◌≡◌, ℕ, List};
 ghost use Rattle.stages.specs.Calls.{Reply};
 ghost use Rattle.stages.specs.Results.{at_rats, at_block, at_deselect, closing_by};
@@ -9,14 +9,14 @@ use exchange::Sent;
 use stages::{AfterBlock, AfterDeselect, AfterRats, Closing, Outcome, Unwoken};
 use std::mem;
 
-// Takes the session out, and leaves a blank one in its place.
+/// Takes the session out, and leaves a blank one in its place.
 pub fn take(session: &mut Session) -> Session
     ensures { result ≡ session.old }
 {
     mem::replace(session, Session::Unwoken(Unwoken::blank()))
 }
 
-// The session after RATS.
+/// The session after RATS.
 pub fn after_rats(next: AfterRats) -> Session
     ensures { (p : Reply) → at_rats next p ≡ at_session result p }
 {
@@ -27,7 +27,7 @@ pub fn after_rats(next: AfterRats) -> Session
     }
 }
 
-// The session after a block of an exchange.
+/// The session after a block of an exchange.
 pub fn after_block(next: AfterBlock) -> Session
     ensures { (p : Reply) → at_block next p ≡ at_session result p }
 {
@@ -38,7 +38,7 @@ pub fn after_block(next: AfterBlock) -> Session
     }
 }
 
-// The session after deselect.
+/// The session after deselect.
 pub fn after_deselect(next: AfterDeselect) -> Session
     ensures { (p : Reply) → at_deselect next p ≡ at_session result p }
 {
@@ -48,7 +48,7 @@ pub fn after_deselect(next: AfterDeselect) -> Session
     }
 }
 
-// Deselect is out.
+/// Deselect is out.
 pub fn close_with<'a>(session: &mut Session, closed: (Closing, Sent)) -> Outcome<'a>
     ensures { (buffer : List ℕ) → closing_by closed buffer ≡ after_call session.new result buffer }
 {

@@ -1,4 +1,4 @@
-// What a session tells at any stage.
+//! What a session tells at any stage.
 ghost use Rattle.std.specs.Prelude.{◌≡◌, ℕ, List};
 ghost use Rattle.exchange.specs.Views.{says_seen};
 ghost use Rattle.protocol.specs.Reader.{fetch as fetches, says as says_in};
@@ -14,7 +14,7 @@ use exchange::{Link, Says};
 use frames::Refusal;
 use stages::{Outcome, Settings, Unwoken};
 
-// What a fetch answers.
+/// What a fetch answers.
 fn fetched<'a>(res: Result<usize, Refusal>) -> Outcome<'a>
     ensures { (buffer : List ℕ) → fetch_reply res buffer ≡ reply_seen result buffer }
 {
@@ -25,7 +25,7 @@ fn fetched<'a>(res: Result<usize, Refusal>) -> Outcome<'a>
 }
 
 impl Session {
-    // A session with these settings, before anything is asked.
+    /// A session with these settings, before anything is asked.
     pub fn new(settings: Settings) -> Result<Session, Refusal>
         ensures { new_seen result ≡ new_for (wished settings) }
     {
@@ -35,7 +35,7 @@ impl Session {
         }
     }
 
-    // Copies the answer gathered.
+    /// Copies the answer gathered.
     pub fn fetch<'a>(&self, out: &mut [u8]) -> Outcome<'a>
         ensures { Does (settings_of self.now) (session_seen self.now) fetches (after_call self.now result out.new) out.old out.new }
     {
@@ -52,7 +52,7 @@ impl Session {
         }
     }
 
-    // What the reader says of its command.
+    /// What the reader says of its command.
     pub fn says(&self) -> Says
         ensures { says_seen result ≡ says_in (session_seen self.now) }
     {
@@ -69,7 +69,7 @@ impl Session {
         }
     }
 
-    // What the reader holds of the card; none where no card was woken.
+    /// What the reader holds of the card; none where no card was woken.
     pub fn link(&self) -> Option<Link>
         ensures { link_held result ≡ (session_seen self.now).link }
     {
@@ -86,7 +86,7 @@ impl Session {
         }
     }
 
-    // The code of the divisor in use from the card; 0 where no card was woken.
+    /// The code of the divisor in use from the card; 0 where no card was woken.
     pub fn dsi(&self) -> u8
         ensures { result ≡ (session_seen self.now).link.dsi }
     {
@@ -96,7 +96,7 @@ impl Session {
         }
     }
 
-    // The code of the divisor in use to the card; 0 where no card was woken.
+    /// The code of the divisor in use to the card; 0 where no card was woken.
     pub fn dri(&self) -> u8
         ensures { result ≡ (session_seen self.now).link.dri }
     {

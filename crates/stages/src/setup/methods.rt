@@ -1,4 +1,4 @@
-// What a session takes from its settings.
+//! What a session takes from its settings.
 ghost use Rattle.std.specs.Prelude.{◌≡◌};
 ghost use Rattle.frames.specs.Sizes.{size_of};
 ghost use Rattle.stages.specs.Setups.{wished, setup_seen, setup_made, setup_for, limits_for, rats_for, all_least};
@@ -9,7 +9,7 @@ use activation::{Rats, size_of_code};
 use exchange::Limits;
 
 impl Setup {
-    // Settings in their ranges.
+    /// Settings in their ranges.
     pub fn of(settings: Settings) -> Option<Setup>
         ensures { setup_made result ≡ setup_for (wished settings) }
     {
@@ -24,7 +24,7 @@ impl Setup {
         })
     }
 
-    // All settings 0.
+    /// All settings 0.
     pub fn least() -> Setup
         ensures { setup_seen result ≡ all_least }
     {
@@ -36,21 +36,21 @@ impl Setup {
         }
     }
 
-    // The number that the reader gives the card.
+    /// The number that the reader gives the card.
     pub fn cid(self) -> u8
         ensures { result ≡ (setup_seen self).cid }
     {
         self.cid
     }
 
-    // How often a fresh frame is repeated.
+    /// How often a fresh frame is repeated.
     pub fn repeats(self) -> u8
         ensures { result ≡ (setup_seen self).repeats }
     {
         self.repeats
     }
 
-    // The reader's frame size.
+    /// The reader's frame size.
     pub fn fsd(self) -> usize
         ensures { result ≡ size_of (setup_seen self).fsdi }
     {
@@ -60,7 +60,7 @@ impl Setup {
         }
     }
 
-    // What holds in an exchange.
+    /// What holds in an exchange.
     pub fn limits(self) -> Limits
         ensures { result ≡ limits_for (setup_seen self) }
     {
@@ -71,7 +71,7 @@ impl Setup {
         }
     }
 
-    // The RATS that the reader writes.
+    /// The RATS that the reader writes.
     pub fn rats(self) -> Rats
         ensures { result ≡ rats_for (setup_seen self) }
     {

@@ -1,4 +1,4 @@
-// The stage with an open exchange.
+//! The stage with an open exchange.
 ghost use Rattle.std.specs.Prelude.{◌≡◌, true};
 ghost use Rattle.exchange.specs.Exchanges.{exchange_seen};
 ghost use Rattle.exchange.specs.Moves.{is_running};

@@ -1,4 +1,4 @@
-// The answer gathered, as each stage has it, and what the reader says.
+//! The answer gathered, as each stage has it, and what the reader says.
 ghost use Rattle.std.specs.Prelude.{◌≡◌, ◌≤◌, length};
 ghost use Rattle.applications.specs.App.{longest_answer};
 ghost use Rattle.exchange.specs.Views.{says_seen};
@@ -12,7 +12,7 @@ use buffers::{ANSWER_ROOM, copy};
 use exchange::Says;
 use frames::Refusal;
 
-// Copies an answer to the front of a buffer that holds the longest, and answers its length.
+/// Copies an answer to the front of a buffer that holds the longest, and answers its length.
 pub fn fetch_from(answer: &[u8], out: &mut [u8]) -> Result<usize, Refusal>
     requires { length answer.now ≤ longest_answer }
     ensures { Copies answer.now result out.old out.new }
@@ -25,14 +25,14 @@ pub fn fetch_from(answer: &[u8], out: &mut [u8]) -> Result<usize, Refusal>
 }
 
 impl Unwoken {
-    // Copies the answer gathered, which is none yet.
+    /// Copies the answer gathered, which is none yet.
     pub fn fetch(&self, out: &mut [u8]) -> Result<usize, Refusal>
         ensures { Fetches (setup_seen self.now.setup) (unwoken_seen self.now) result out.old out.new }
     {
         fetch_from(&[], out)
     }
 
-    // What the reader says of its command.
+    /// What the reader says of its command.
     pub fn says(&self) -> Says
         ensures { says_seen result ≡ says_in (unwoken_seen self.now) }
     {
@@ -41,14 +41,14 @@ impl Unwoken {
 }
 
 impl Asking {
-    // Copies the answer gathered, which is none yet.
+    /// Copies the answer gathered, which is none yet.
     pub fn fetch(&self, out: &mut [u8]) -> Result<usize, Refusal>
         ensures { Fetches (setup_seen self.now.setup) (asking_seen self.now) result out.old out.new }
     {
         fetch_from(&[], out)
     }
 
-    // What the reader says of its command.
+    /// What the reader says of its command.
     pub fn says(&self) -> Says
         ensures { says_seen result ≡ says_in (asking_seen self.now) }
     {
@@ -57,14 +57,14 @@ impl Asking {
 }
 
 impl Woken {
-    // Copies the answer gathered, which is none yet.
+    /// Copies the answer gathered, which is none yet.
     pub fn fetch(&self, out: &mut [u8]) -> Result<usize, Refusal>
         ensures { Fetches (setup_seen self.now.setup) (woken_seen self.now) result out.old out.new }
     {
         fetch_from(&[], out)
     }
 
-    // What the reader says of its command.
+    /// What the reader says of its command.
     pub fn says(&self) -> Says
         ensures { says_seen result ≡ says_in (woken_seen self.now) }
     {
@@ -73,14 +73,14 @@ impl Woken {
 }
 
 impl Failed {
-    // Copies the answer gathered, which is none yet.
+    /// Copies the answer gathered, which is none yet.
     pub fn fetch(&self, out: &mut [u8]) -> Result<usize, Refusal>
         ensures { Fetches (setup_seen self.now.setup) (failed_seen self.now) result out.old out.new }
     {
         fetch_from(&[], out)
     }
 
-    // What the reader says of its command.
+    /// What the reader says of its command.
     pub fn says(&self) -> Says
         ensures { says_seen result ≡ says_in (failed_seen self.now) }
     {
@@ -89,14 +89,14 @@ impl Failed {
 }
 
 impl Idle {
-    // Copies the answer gathered.
+    /// Copies the answer gathered.
     pub fn fetch(&self, out: &mut [u8]) -> Result<usize, Refusal>
         ensures { Fetches (setup_seen self.now.setup) (idle_seen self.now) result out.old out.new }
     {
         fetch_from(self.exchange.answer(), out)
     }
 
-    // What the reader says of its command.
+    /// What the reader says of its command.
     pub fn says(&self) -> Says
         ensures { says_seen result ≡ says_in (idle_seen self.now) }
     {
@@ -105,14 +105,14 @@ impl Idle {
 }
 
 impl Ended {
-    // Copies the answer gathered.
+    /// Copies the answer gathered.
     pub fn fetch(&self, out: &mut [u8]) -> Result<usize, Refusal>
         ensures { Fetches (setup_seen self.now.setup) (ended_seen self.now) result out.old out.new }
     {
         fetch_from(self.exchange.answer(), out)
     }
 
-    // What the reader says of its command.
+    /// What the reader says of its command.
     pub fn says(&self) -> Says
         ensures { says_seen result ≡ says_in (ended_seen self.now) }
     {
@@ -121,7 +121,7 @@ impl Ended {
 }
 
 impl Closing {
-    // Copies the answer gathered.
+    /// Copies the answer gathered.
     pub fn fetch(&self, out: &mut [u8]) -> Result<usize, Refusal>
         ensures { Fetches (setup_seen self.now.setup) (closing_seen self.now) result out.old out.new }
     {
@@ -131,7 +131,7 @@ impl Closing {
         }
     }
 
-    // What the reader says of its command.
+    /// What the reader says of its command.
     pub fn says(&self) -> Says
         ensures { says_seen result ≡ says_in (closing_seen self.now) }
     {
@@ -143,7 +143,7 @@ impl Closing {
 }
 
 impl Closed {
-    // What the reader says of its command.
+    /// What the reader says of its command.
     pub fn says(&self) -> Says
         ensures { says_seen result ≡ says_in (closed_seen self.now) }
     {

@@ -1,4 +1,4 @@
-// What the reader holds of the card, as each stage has it.
+//! What the reader holds of the card, as each stage has it.
 ghost use Rattle.std.specs.Prelude.{◌≡◌};
 ghost use Rattle.exchange.specs.Links.{link_seen};
 ghost use Rattle.stages.specs.Stages.{woken_seen, idle_seen, ended_seen, closing_seen, closed_seen, link_held};
@@ -31,7 +31,7 @@ impl Ended {
 }
 
 impl Closing {
-    // None where no card was woken.
+    /// None where no card was woken.
     pub fn link(&self) -> Option<Link>
         ensures { link_held result ≡ (closing_seen self.now).link }
     {
@@ -43,7 +43,7 @@ impl Closing {
 }
 
 impl Closed {
-    // None where no card was woken.
+    /// None where no card was woken.
     pub fn link(&self) -> Option<Link>
         ensures { link_held result ≡ (closed_seen self.now).link }
     {

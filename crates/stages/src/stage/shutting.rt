@@ -1,4 +1,4 @@
-// Closing a session: deselect, from each stage that takes it, until the card is off.
+//! Closing a session: deselect, from each stage that takes it, until the card is off.
 ghost use Rattle.std.specs.Prelude.{◌≡◌, ◌≤◌, true, false, length};
 ghost use Rattle.frames.specs.Sizes.{greatest_frame};
 ghost use Rattle.frames.specs.Views.{cid_seen, agreement};
@@ -18,7 +18,7 @@ use exchange::{Exchange, Sent};
 use frames::{Agreed, CardNumber, GREATEST_FRAME, Refusal};
 
 impl Woken {
-    // Writes deselect.
+    /// Writes deselect.
     pub fn close(self, out: &mut [u8]) -> Result<(Closing, Sent), (Woken, Refusal)>
         ensures { Does (setup_seen self.setup) (woken_seen self) closes (closed_woken result out.new) out.old out.new }
     {
@@ -37,7 +37,7 @@ impl Woken {
 }
 
 impl Failed {
-    // Writes deselect, without a card number.
+    /// Writes deselect, without a card number.
     pub fn close(self, out: &mut [u8]) -> Result<(Closing, Sent), (Failed, Refusal)>
         ensures { Does (setup_seen self.setup) (failed_seen self) closes (closed_failed result out.new) out.old out.new }
     {
@@ -56,7 +56,7 @@ impl Failed {
 }
 
 impl Idle {
-    // Writes deselect.
+    /// Writes deselect.
     pub fn close(self, out: &mut [u8]) -> Result<(Closing, Sent), (Idle, Refusal)>
         ensures { Does (setup_seen self.setup) (idle_seen self) closes (closed_idle result out.new) out.old out.new }
     {
@@ -75,7 +75,7 @@ impl Idle {
 }
 
 impl Ended {
-    // Writes deselect.
+    /// Writes deselect.
     pub fn close(self, out: &mut [u8]) -> Result<(Closing, Sent), (Ended, Refusal)>
         ensures { Does (setup_seen self.setup) (ended_seen self) closes (closed_ended result out.new) out.old out.new }
     {
@@ -94,14 +94,14 @@ impl Ended {
 }
 
 impl Closing {
-    // A frame was heard.
+    /// A frame was heard.
     pub fn heard<'a>(self, frame: &'a [u8], out: &mut [u8]) -> (AfterDeselect, Outcome<'a>)
         ensures { Does (setup_seen self.setup) (closing_seen self) (hears frame.now) (heard_deselect result out.new) out.old out.new }
     {
         self.listen(Some(frame), out)
     }
 
-    // Nothing was heard for as long as the reader had to listen.
+    /// Nothing was heard for as long as the reader had to listen.
     pub fn silent<'a>(self, out: &mut [u8]) -> (AfterDeselect, Outcome<'a>)
         ensures { Does (setup_seen self.setup) (closing_seen self) hears_nothing (heard_deselect result out.new) out.old out.new }
     {
@@ -124,7 +124,7 @@ impl Closing {
         self.again(out)
     }
 
-    // Deselect again, while there are repeats left.
+    /// Deselect again, while there are repeats left.
     fn again<'a>(self, out: &mut [u8]) -> (AfterDeselect, Outcome<'a>)
         requires { greatest_frame ≤ length out.old }
         ensures { Makes (setup_seen self.setup) (on_deselect (setup_seen self.setup) (closing_seen self).link (closing_seen self).exchange false) (heard_deselect result out.new) out.old out.new }
@@ -146,7 +146,7 @@ impl Closing {
         }
     }
 
-    // The card number in the reader's blocks.
+    /// The card number in the reader's blocks.
     fn card(&self) -> Option<CardNumber>
         ensures number { cid_seen result ≡ (latest_link self.now.latest).cid }
         ensures range { cid_in_range (cid_seen result) ≡ true }
@@ -157,7 +157,7 @@ impl Closing {
         }
     }
 
-    // Which card numbers the reader takes in the card's blocks.
+    /// Which card numbers the reader takes in the card's blocks.
     fn agreed(&self) -> Agreed
         ensures { agreement result ≡ agreed_of (latest_link self.now.latest).cid }
     {

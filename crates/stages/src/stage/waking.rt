@@ -1,4 +1,4 @@
-// Waking a card: from the first stage to the start of an active session.
+//! Waking a card: from the first stage to the start of an active session.
 ghost use Rattle.std.specs.Prelude.{◌≡◌, ℕ, ◌≤◌, List, length};
 ghost use Rattle.activation.specs.Ats.{good, bad};
 ghost use Rattle.activation.specs.Laws.{ValidAts};
@@ -22,7 +22,7 @@ use activation::Ats;
 use exchange::{Ending, Exchange, Link, NO_CAUSE, Report, Says, Sent, Totals};
 use frames::{Cause, GREATEST_FRAME, Refusal};
 
-// What is told of a session without an exchange.
+/// What is told of a session without an exchange.
 const NO_REPORT: Report = Report {
     says: Says::Nothing,
     totals: Totals {
@@ -33,7 +33,7 @@ const NO_REPORT: Report = Report {
 };
 
 impl Unwoken {
-    // A session with these settings, before anything is asked.
+    /// A session with these settings, before anything is asked.
     pub fn new(settings: Settings) -> Result<Unwoken, Refusal>
         ensures { made result ≡ making (wished settings) }
     {
@@ -43,7 +43,7 @@ impl Unwoken {
         }
     }
 
-    // A session with the least settings, in the place of one that was taken out.
+    /// A session with the least settings, in the place of one that was taken out.
     pub fn blank() -> Unwoken
         ensures { setup_seen result.setup ≡ all_least }
     {
@@ -52,7 +52,7 @@ impl Unwoken {
         }
     }
 
-    // Writes RATS.
+    /// Writes RATS.
     pub fn ask(self, out: &mut [u8]) -> Result<(Asking, Sent), (Unwoken, Refusal)>
         ensures { Does (setup_seen self.setup) (unwoken_seen self) asks (asked result out.new) out.old out.new }
     {
@@ -71,14 +71,14 @@ impl Unwoken {
 }
 
 impl Asking {
-    // A frame was heard.
+    /// A frame was heard.
     pub fn heard<'a>(self, frame: &'a [u8], out: &mut [u8]) -> (AfterRats, Outcome<'a>)
         ensures { Does (setup_seen self.setup) (asking_seen self) (hears frame.now) (heard_rats result out.new) out.old out.new }
     {
         self.listen(Some(frame), out)
     }
 
-    // Nothing was heard for as long as the reader had to listen.
+    /// Nothing was heard for as long as the reader had to listen.
     pub fn silent<'a>(self, out: &mut [u8]) -> (AfterRats, Outcome<'a>)
         ensures { Does (setup_seen self.setup) (asking_seen self) hears_nothing (heard_rats result out.new) out.old out.new }
     {
@@ -97,7 +97,7 @@ impl Asking {
         }
     }
 
-    // The card is awake; an ATS that was read has no reserved value, so that it gives a link.
+    /// The card is awake; an ATS that was read has no reserved value, so that it gives a link.
     fn wake<'a>(self, ats: Ats<'a>) -> (AfterRats, Outcome<'a>)
         requires { ValidAts (said_by ats) }
         ensures { (buffer : List ℕ) → Makes (setup_seen self.setup) (on_ats (setup_seen self.setup) (asking_seen self).link (asking_seen self).exchange (good (said_by ats.entry))) (heard_rats result buffer) buffer buffer }
@@ -109,7 +109,7 @@ impl Asking {
         }
     }
 
-    // RATS again, while there are repeats left.
+    /// RATS again, while there are repeats left.
     fn again<'a>(self, why: Cause, out: &mut [u8]) -> (AfterRats, Outcome<'a>)
         requires { greatest_frame ≤ length out.old }
         ensures { Makes (setup_seen self.setup) (on_ats (setup_seen self.setup) (asking_seen self).link (asking_seen self).exchange (bad (cause_seen why))) (heard_rats result out.new) out.old out.new }
@@ -136,7 +136,7 @@ impl Asking {
         }
     }
 
-    // The repeats are spent.
+    /// The repeats are spent.
     fn fail(self) -> Failed
         ensures { result ≡ record { setup = self.setup; tries = self.tries; why = self.why } }
     {
@@ -149,7 +149,7 @@ impl Asking {
 }
 
 impl Woken {
-    // The session is active.
+    /// The session is active.
     pub fn start(self) -> Idle
         ensures { Turns (setup_seen self.setup) (woken_seen self) starts (started result) }
     {

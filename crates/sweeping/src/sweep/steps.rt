@@ -1,4 +1,4 @@
-// The steps of a sweep.
+//! The steps of a sweep.
 ghost use Rattle.std.specs.Prelude.{◌≡◌, OnOk};
 ghost use Rattle.sweeping.specs.OrderViews.{order_seen};
 ghost use Rattle.sweeping.specs.Sweeps.{counted, sweep_for, sweep_seen, Lined, run_line, next_line, is_over};
@@ -10,10 +10,10 @@ use crate::printing::{push_names, push_row, push_sum};
 use crate::row::run;
 use std::alloc::AllocError;
 
-// Counts end here; no sweep has so many runs.
+/// Counts end here; no sweep has so many runs.
 const GREATEST_COUNT: usize = 1000000000000;
 
-// One more, if it counts.
+/// One more, if it counts.
 fn count(n: usize, more: bool) -> usize
     ensures { result ≡ counted n more }
 {
@@ -24,7 +24,7 @@ fn count(n: usize, more: bool) -> usize
 }
 
 impl Sweep {
-    // A sweep before its first line.
+    /// A sweep before its first line.
     pub fn new(order: Order) -> Sweep
         ensures { sweep_seen result ≡ sweep_for (order_seen order) }
     {
@@ -40,7 +40,7 @@ impl Sweep {
         }
     }
 
-    // Plays a run, appends its row, and counts it.
+    /// Plays a run, appends its row, and counts it.
     fn push_run(
         &mut self,
         out: &mut Vec<u8>,
@@ -63,7 +63,7 @@ impl Sweep {
         Ok(())
     }
 
-    // Appends the next line of the table, if one is left.
+    /// Appends the next line of the table, if one is left.
     pub fn push_next(&mut self, out: &mut Vec<u8>) -> Result<(), AllocError>
         ensures { OnOk result (Lined (next_line (sweep_seen self.old)) (sweep_seen self.new) out.old.items out.new.items) }
     {
@@ -87,7 +87,7 @@ impl Sweep {
         }
     }
 
-    // No line is left.
+    /// No line is left.
     pub fn is_over(&self) -> bool
         ensures { result ≡ is_over (sweep_seen self.now).place }
     {

@@ -1,4 +1,4 @@
-// An exchange, from its begin to its end.
+//! An exchange, from its begin to its end.
 ghost use Rattle.std.specs.Prelude.{◌≡◌};
 ghost use Rattle.exchange.specs.Links.{link_seen};
 ghost use Rattle.exchange.specs.Listening.{event_seen};
@@ -19,7 +19,7 @@ use exchange::{Link, Report, Says, Sent, Turn};
 use frames::Refusal;
 
 impl Idle {
-    // Takes a command, and writes its first block.
+    /// Takes a command, and writes its first block.
     pub fn begin(self, command: &[u8], out: &mut [u8]) -> Result<(Busy, Sent), (Idle, Refusal)>
         ensures { Does (setup_seen self.setup) (idle_seen self) (begins command.now) (began result out.new) out.old out.new }
     {
@@ -35,14 +35,14 @@ impl Idle {
 }
 
 impl Busy {
-    // A frame was heard.
+    /// A frame was heard.
     pub fn heard<'a>(self, frame: &'a [u8], out: &mut [u8]) -> (AfterBlock, Outcome<'a>)
         ensures { Does (setup_seen self.setup) (busy_seen self) (hears frame.now) (heard_block result out.new) out.old out.new }
     {
         self.listen(Some(frame), out)
     }
 
-    // Nothing was heard for as long as the reader had to listen.
+    /// Nothing was heard for as long as the reader had to listen.
     pub fn silent<'a>(self, out: &mut [u8]) -> (AfterBlock, Outcome<'a>)
         ensures { Does (setup_seen self.setup) (busy_seen self) hears_nothing (heard_block result out.new) out.old out.new }
     {
@@ -76,7 +76,7 @@ impl Busy {
         }
     }
 
-    // The host gives the exchange up.
+    /// The host gives the exchange up.
     pub fn give_up(self) -> (Ended, Report)
         ensures { Turns (setup_seen self.setup) (busy_seen self) gives_up (gave_up result) }
     {
@@ -88,21 +88,21 @@ impl Busy {
         (stage, report)
     }
 
-    // Copies the answer gathered.
+    /// Copies the answer gathered.
     pub fn fetch(&self, out: &mut [u8]) -> Result<usize, Refusal>
         ensures { Fetches (setup_seen self.now.setup) (busy_seen self.now) result out.old out.new }
     {
         fetch_from(self.exchange.answer(), out)
     }
 
-    // What the reader says of its command.
+    /// What the reader says of its command.
     pub fn says(&self) -> Says
         ensures { says_seen result ≡ says_in (busy_seen self.now) }
     {
         self.exchange.says()
     }
 
-    // What the reader holds of the card.
+    /// What the reader holds of the card.
     pub fn link(&self) -> Link
         ensures { link_seen result ≡ (busy_seen self.now).link }
     {
