@@ -4,32 +4,32 @@ use Rattle.std.proofs.lemmas.List.{length-take-le}
 use Rattle.std.proofs.lemmas.Bool.{le-leb}
 use Rattle.std.proofs.lemmas.Bool.Decides.{nat_tests}
 use Rattle.buffers.specs.Rooms.{answer_room}
-use Rattle.buffers.specs.Stores.{command_held, answer_held}
+use Rattle.buffers.specs.Stores.{held}
 use Rattle.buffers.specs.declared.answer.AnswerStore.{AnswerStore}
 use Rattle.buffers.specs.declared.command.CommandStore.{CommandStore}
 
-pub command_long : (s : CommandStore) → length (command_held s) ≡ s.len
+pub command_long : (s : CommandStore) → length (held s) ≡ s.len
 command_long s =
     let whole = s.whole in let within = s.within in length-take-le s.len s.bytes (omega arith)
 
-pub answer_long_lem : (s : AnswerStore) → length (answer_held s) ≡ s.len
+pub answer_long_lem : (s : AnswerStore) → length (held s) ≡ s.len
 answer_long_lem s =
     let whole = s.whole in let within = s.within in length-take-le s.len s.bytes (omega arith)
 
 -- an answer with more behind it
 pub record Grown (s t : AnswerStore) (more : List ℕ) : Type 0 where
-  pub held : answer_held t ≡ answer_held s ++ more
+  pub held : held t ≡ held s ++ more
   pub long : t.len ≡ s.len + length more
 
-module _ (s t : AnswerStore) (more : List ℕ) (r : Bool) (fits : length (answer_held s ++ more) ≤ answer_room) (value : r ≡ leb (length (answer_held s) + length more) answer_room) (gathers : answer_held t ≡ cond r (answer_held s ++ more) (answer_held s)) where
-  both_long : length (answer_held s ++ more) ≡ length (answer_held s) + length more
-  both_long = length-append (answer_held s) more
+module _ (s t : AnswerStore) (more : List ℕ) (r : Bool) (fits : length (held s ++ more) ≤ answer_room) (value : r ≡ leb (length (held s) + length more) answer_room) (gathers : held t ≡ cond r (held s ++ more) (held s)) where
+  both_long : length (held s ++ more) ≡ length (held s) + length more
+  both_long = length-append (held s) more
 
   went : r ≡ true
-  went = value ∙ le-leb (length (answer_held s) + length more) answer_room (omega (arith, both_long))
+  went = value ∙ le-leb (length (held s) + length more) answer_room (omega (arith, both_long))
 
-  gathered : answer_held t ≡ answer_held s ++ more
-  gathered = gathers ∙ ap (λ b. cond b (answer_held s ++ more) (answer_held s)) went
+  gathered : held t ≡ held s ++ more
+  gathered = gathers ∙ ap (λ b. cond b (held s ++ more) (held s)) went
 
   pub grown : Grown s t more
   grown =
@@ -39,9 +39,9 @@ module _ (s t : AnswerStore) (more : List ℕ) (r : Bool) (fits : length (answer
       }
 
 -- whether more fits, by the room that is left
-pub room_left : (s : AnswerStore) (held more : List ℕ) → held ≡ answer_held s → leb (length more) (answer_room - length held) ≡ leb (length (answer_held s ++ more)) answer_room
+pub room_left : (s : AnswerStore) (held more : List ℕ) → held ≡ held s → leb (length more) (answer_room - length held) ≡ leb (length (held s ++ more)) answer_room
 room_left s held more e =
-    let long = length-append (answer_held s) more in
+    let long = length-append (held s) more in
     let few = answer_long_lem s in
     let within = s.within in
     let same = ap length e in

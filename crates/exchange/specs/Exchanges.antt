@@ -1,6 +1,6 @@
 -- What an exchange stands for.
 use Rattle.std.specs.Prelude.{ℕ, take, drop}
-use Rattle.buffers.specs.Stores.{command_held, answer_held}
+use Rattle.buffers.specs.Stores.{held}
 use Rattle.frames.specs.Faults.{cause_seen}
 use Rattle.protocol.specs.Reader.{Exchange}
 use Rattle.protocol.specs.Settings.{room_of}
@@ -19,9 +19,9 @@ exchange_seen x =
     record {
       progress = progress_seen x.progress;
       number = x.number;
-      part = take (room_for x.link) (drop x.from (command_held x.command));
-      rest = drop (room_for x.link) (drop x.from (command_held x.command));
-      answer = answer_held x.answer;
+      part = take (room_for x.link) (drop x.from (held x.command));
+      rest = drop (room_for x.link) (drop x.from (held x.command));
+      answer = held x.answer;
       totals = totals_seen x.totals;
       since = x.since;
       why = cause_seen x.why;

@@ -1,6 +1,6 @@
 //! An exchange over a link: a command sent in parts, and its answer gathered.
 ghost use Rattle.std.specs.Prelude.{◌≡◌, ◌+◌, ◌*◌, ◌<◌, ◌≤◌, length};
-ghost use Rattle.buffers.specs.Stores.{command_held};
+ghost use Rattle.buffers.specs.Stores.{held};
 ghost use Rattle.protocol.specs.Reader.{running};
 ghost use Rattle.exchange.specs.Views.{progress_seen};
 
@@ -39,7 +39,7 @@ pub struct Exchange {
     other: bool,
     /// a wait or an I-block of equal number came after its first writing
     came: bool,
-    ghost sends: { (progress_seen progress ≡ running → from < length (command_held command)) },
+    ghost sends: { (progress_seen progress ≡ running → from < length (held command)) },
     ghost place: { from ≤ 261 },
     ghost fresh: { totals.fresh ≤ 1 + from + answer.len },
     ghost repeats: { totals.repeats ≤ 255 * totals.fresh + since },

@@ -1,7 +1,7 @@
 //! The exchange after a part of the answer.
 ghost use Rattle.std.specs.Prelude.{◌≡◌, ◌<◌, ◌≤◌, ◌++◌, length};
 ghost use Rattle.buffers.specs.Rooms.{answer_room};
-ghost use Rattle.buffers.specs.Stores.{answer_held};
+ghost use Rattle.buffers.specs.Stores.{held};
 ghost use Rattle.protocol.specs.Reader.{running, appended, completed};
 ghost use Rattle.exchange.specs.Exchanges.{exchange_seen};
 ghost use Rattle.exchange.specs.Views.{progress_seen};
@@ -15,7 +15,7 @@ impl Exchange {
     pub(super) fn append(&mut self, information: &[u8])
         requires running { progress_seen self.old.progress ≡ running }
         requires some { 0 < length information.now }
-        requires fits { length (answer_held self.old.answer ++ information.now) ≤ answer_room }
+        requires fits { length (held self.old.answer ++ information.now) ≤ answer_room }
         ensures seen { exchange_seen self.new ≡ appended information.now (exchange_seen self.old) }
         ensures link { self.new.link ≡ self.old.link }
     {
@@ -31,7 +31,7 @@ impl Exchange {
     /// The last I-block: the answer is all there.
     pub(super) fn complete(&mut self, information: &[u8])
         requires running { progress_seen self.old.progress ≡ running }
-        requires fits { length (answer_held self.old.answer ++ information.now) ≤ answer_room }
+        requires fits { length (held self.old.answer ++ information.now) ≤ answer_room }
         ensures seen { exchange_seen self.new ≡ completed information.now (exchange_seen self.old) }
         ensures link { self.new.link ≡ self.old.link }
     {

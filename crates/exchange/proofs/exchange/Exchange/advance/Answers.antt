@@ -1,7 +1,7 @@
 use Rattle.std.proofs.Common.{◌≡◌, ◌+◌, ◌<◌, false, not, length, take, drop, sym, refl, ap, ◌∙◌, arith}
 use Rattle.std.proofs.lemmas.List.{drop-drop}
 use Rattle.std.proofs.lemmas.Bool.{ltb-true}
-use Rattle.buffers.specs.Stores.{command_held}
+use Rattle.buffers.specs.Stores.{held}
 use Rattle.frames.specs.Views.{cid_seen}
 use Rattle.protocol.specs.Reader.{no_cause, totalled}
 use Rattle.exchange.specs.Exchanges.{exchange_seen, room_for}
@@ -13,7 +13,7 @@ use Rattle.exchange.proofs.exchange.Exchange.advance.Goals as goal
 pub invariant_of-self : goal.invariant_of-self
 invariant_of-self c =
     let x = c.args.self.now in
-    let l = command_held x.command in
+    let l = held x.command in
     let room = room_for x.link in
     let behind = ltb-true (x.from + room) (length l) (more_behind l x.from room ∙ c.requires.left) in
     let some = room_some x.link.fsc (cid_seen x.link.card) x.link.least in
@@ -26,7 +26,7 @@ invariant_of-self c =
 pub returns : goal.returns
 returns c =
     let x = exchange_seen c.args.self.now in
-    let l = command_held c.args.self.now.command in
+    let l = held c.args.self.now.command in
     let from = c.args.self.now.from in
     let room = room_for c.args.self.now.link in
     let next : drop (from + c.room.result) l ≡ drop room (drop from l) =

@@ -1,5 +1,5 @@
 use Rattle.std.proofs.Common.{◌≡◌, ◌+◌, ◌-◌, min, length, take, drop, ap, ◌∙◌, ap₂, arith}
-use Rattle.buffers.specs.Stores.{command_held}
+use Rattle.buffers.specs.Stores.{held}
 use Rattle.exchange.specs.Exchanges.{room_for}
 use Rattle.exchange.proofs.Parts.{clamped}
 use Rattle.exchange.proofs.exchange.Exchange.part.Goals as goal
@@ -7,7 +7,7 @@ use Rattle.exchange.proofs.exchange.Exchange.part.Goals as goal
 pub returns : goal.returns
 returns c =
     let x = c.args.self.now in
-    let l = command_held x.command in
+    let l = held x.command in
     let begun = x.sends c.requires in
     let end : c.min-end.result ≡ min (length l) (x.from + room_for x.link) =
     c.min-end.ensures ∙ ap₂ (λ h n. min (length h) (x.from + n)) c.gathered-command.ensures c.room.ensures in

@@ -1,5 +1,5 @@
 use Rattle.std.proofs.Common.{◌≡◌, drop, refl, ap, ◌∙◌, subst}
-use Rattle.buffers.specs.Stores.{command_held}
+use Rattle.buffers.specs.Stores.{held}
 use Rattle.frames.specs.Blocks.{i_block}
 use Rattle.frames.specs.Views.{cid_seen, block_seen}
 use Rattle.frames.specs.Writing.{in_range, sendable}
@@ -21,7 +21,7 @@ is_part c =
 pub send-requires : goal.send-requires
 send-requires c =
     let x = c.args.self.now in
-    let l = command_held x.command in
+    let l = held x.command in
     let room = room_for x.link in
     let cid = cid_seen x.link.card in
     let is = is_part (goal.at.send-requires c).After-carrying-block in
