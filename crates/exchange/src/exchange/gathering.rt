@@ -19,7 +19,7 @@ impl Exchange {
         ensures seen { exchange_seen self.new ≡ appended information.now (exchange_seen self.old) }
         ensures link { self.new.link ≡ self.old.link }
     {
-        self.answer.append(information);
+        self.answer.append(information).unwrap();
         self.number = !self.number;
         self.totals.fresh += 1;
         self.since = 0;
@@ -35,7 +35,7 @@ impl Exchange {
         ensures seen { exchange_seen self.new ≡ completed information.now (exchange_seen self.old) }
         ensures link { self.new.link ≡ self.old.link }
     {
-        self.answer.append(information);
+        self.answer.append(information).unwrap();
         self.number = !self.number;
         self.progress = Progress::Finished;
         self.stretch = 0;

@@ -25,7 +25,7 @@ impl Exchange {
         ensures link { self.new.link ≡ self.old.link }
     {
         self.command.clear();
-        self.command.append(command);
+        self.command.append(command).unwrap();
         self.from = 0;
         self.answer.clear();
         self.progress = Progress::Running;
