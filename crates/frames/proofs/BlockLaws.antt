@@ -1,11 +1,14 @@
 -- The laws of blocks and their frames.
-use Rattle.std.proofs.Common.{◌≡◌, ℕ, ◌<◌, ◌≤◌, List, length, sym, refl, ap, ◌∙◌, subst, ⊎_elim, arith}
+use Rattle.std.proofs.Common.{◌≡◌, ℕ, ◌<◌, ◌≤◌, List, length, IfOk, Ok, Err, Result, sym, refl, ap, ◌∙◌, subst, ⊎_elim, arith}
 use Rattle.std.proofs.lemmas.List.{get_or_append_left, get_or_past}
 use Rattle.std.proofs.lemmas.Bool.{cases_lt}
-use Rattle.frames.specs.Blocks.{Block, i_block, r_block, deselect, wait, bytes_of, frame_of}
+use Rattle.frames.specs.Blocks.{Block, i_block, r_block, deselect, wait, ValidBlock, bytes_of, frame_of}
 use Rattle.frames.specs.Check.{seal, check_of, Opened, opened, unopened, open_frame}
 use Rattle.frames.specs.Laws.{Bytes, ReadsItsFrame, NeverReadsNoise, ReadsOnlyItsFrame, FramesDiffer}
 use Rattle.frames.specs.Reading.{Agreed, valid, read_body, read_opened, read_frame}
+use Rattle.frames.specs.Views.{block_seen, seen}
+use Rattle.frames.specs.declared.block.Block as coded
+use Rattle.frames.specs.declared.fault.BlockFault.{BlockFault}
 use Rattle.frames.proofs.Decoding.{decode, decodes, reads_bytes}
 use Rattle.frames.proofs.Encoding.{same_block, never, read_back}
 use Rattle.frames.proofs.FrameLaws.{opens_to_its_body, opens_if_sealed, seal_apart}
@@ -49,6 +52,11 @@ reads_only_its_frame limit agreed f b small e =
     let r = read_back agreed o.0 b (front_bytes o.0 (subst Bytes s.0 small)) o.2 in
     let is : f ≡ frame_of b = s.0 ∙ ap seal (sym r.0) in
     (is, (r.1, subst (λ l. length l ≤ limit) is s.2, r.2))
+
+-- a block that was read is one
+pub valid_read : (limit : ℕ) (agreed : Agreed) (f : List ℕ) (r : Result coded.Block BlockFault) → Bytes f → seen r ≡ read_frame limit agreed f → IfOk r (λ b. ValidBlock (block_seen b))
+valid_read limit agreed f (Ok b) small e = (reads_only_its_frame limit agreed f (block_seen b) small (sym e)).1.0
+valid_read limit agreed f (Err why) small e = tt
 
 pub frames_differ : FramesDiffer
 frames_differ a b va vb e =

@@ -1,10 +1,10 @@
 -- From the parts of a frame to the whole.
-use Rattle.std.proofs.Common.{◌≡◌, ℕ, suc, ◌-◌, true, cond, List, ◌∷◌, drop, Ok, Err, Result, sym, refl, ap, ◌∙◌, arith}
+use Rattle.std.proofs.Common.{◌≡◌, ℕ, suc, ◌-◌, true, cond, List, ◌∷◌, drop, Some, Ok, Err, Result, sym, refl, ap, ◌∙◌, arith}
 use Rattle.frames.specs.declared.block.Block as coded
 use Rattle.frames.specs.declared.block.Block.TheVariants as blocks
 use Rattle.frames.specs.declared.fault.BlockFault.{BlockFault}
 use Rattle.frames.specs.declared.kind.Kind as table
-use Rattle.frames.specs.declared.kind.Kind.TheVariants.{I, R, Deselect, Wait, Reserved}
+use Rattle.frames.specs.declared.kind.Kind.TheVariants.{I, R, Deselect, Wait}
 use Rattle.frames.specs.Causes.{without_kind}
 use Rattle.frames.specs.Kinds.{kind_seen}
 use Rattle.frames.specs.Reading.{Agreed, kind_of, is_kind, read_rest, read_body, invalid}
@@ -20,15 +20,14 @@ behind_control c rest (Ok (blocks.Deselect card)) h = tt
 behind_control c rest (Ok (blocks.Wait multiplier power card)) h = tt
 behind_control c rest (Err why) h = tt
 
-is_kind_lem : (k : table.Kind) → (k ≡ Reserved → ⊥) → is_kind (kind_seen k) ≡ true
-is_kind_lem I h = refl
-is_kind_lem R h = refl
-is_kind_lem Deselect h = refl
-is_kind_lem Wait h = refl
-is_kind_lem Reserved h = absurd (h refl)
+is_kind_lem : (k : table.Kind) → is_kind (kind_seen (Some k)) ≡ true
+is_kind_lem I = refl
+is_kind_lem R = refl
+is_kind_lem Deselect = refl
+is_kind_lem Wait = refl
 
 -- a body with a control byte of a kind is read by what stands behind it
-pub by_kind : (agreed : Agreed) (c : ℕ) (rest : List ℕ) (k : table.Kind) → kind_seen k ≡ kind_of c → (k ≡ Reserved → ⊥) → read_rest agreed (kind_seen k) c rest ≡ read_body agreed (c ∷ rest)
-by_kind agreed c rest k e h =
-    ap (λ b. cond b (read_rest agreed (kind_seen k) c rest) (invalid without_kind)) (sym (is_kind_lem k h))
+pub by_kind : (agreed : Agreed) (c : ℕ) (rest : List ℕ) (k : table.Kind) → kind_seen (Some k) ≡ kind_of c → read_rest agreed (kind_seen (Some k)) c rest ≡ read_body agreed (c ∷ rest)
+by_kind agreed c rest k e =
+    ap (λ b. cond b (read_rest agreed (kind_seen (Some k)) c rest) (invalid without_kind)) (sym (is_kind_lem k))
     ∙ ap (λ K. cond (is_kind K) (read_rest agreed K c rest) (invalid without_kind)) e

@@ -4,14 +4,14 @@ ghost use Rattle.frames.specs.declared.block.Block.TheVariants.{I, R, Deselect, 
 ghost use Rattle.frames.specs.Views.{cid_seen, information_place};
 
 /// A card number (CID) with the power level that it was sent with.
-#[derive(Clone, Copy)]
+#[derive(Clone, Copy, Debug, PartialEq, Eq)]
 pub struct CardNumber {
     pub number: u8,
     pub power: u8,
 }
 
 /// A block. Block numbers are bits: false is 0, true is 1.
-#[derive(Clone, Copy)]
+#[derive(Clone, Copy, Debug, PartialEq, Eq)]
 pub enum Block<'a> {
     /// information, a part of the frame that begins at `place` (the control byte being 1)
     I {
@@ -39,7 +39,7 @@ pub enum Block<'a> {
 }
 
 /// Which card numbers a receiver takes.
-#[derive(Clone, Copy)]
+#[derive(Clone, Copy, Debug, PartialEq, Eq)]
 pub enum Agreed {
     NoNumber,
     Number(u8),

@@ -1,11 +1,11 @@
 //! Why what was heard is no frame, or no block.
 ghost use Rattle.std.specs.Prelude.{◌≡◌};
-ghost use Rattle.frames.specs.Causes.{cause, block};
-ghost use Rattle.frames.specs.Faults.{cause_seen, frame_cause, block_cause};
+ghost use Rattle.frames.specs.Causes.{cause};
+ghost use Rattle.frames.specs.Faults.{layer_seen, cause_seen, frame_cause, block_cause};
 ghost use Rattle.frames.specs.declared.fault.BlockFault.TheVariants.{Frame as frame_fault};
 
 /// The layer at which a cause was found.
-#[derive(Clone, Copy)]
+#[derive(Clone, Copy, Debug, PartialEq, Eq)]
 pub enum Layer {
     Frame,
     Activation,
@@ -13,7 +13,7 @@ pub enum Layer {
 }
 
 /// A cause: its number, the place of the byte at fault, counted from 1 (0 where there is none), and its layer.
-#[derive(Clone, Copy)]
+#[derive(Clone, Copy, Debug, PartialEq, Eq)]
 pub struct Cause {
     pub number: u8,
     pub place: usize,
@@ -21,7 +21,7 @@ pub struct Cause {
 }
 
 /// Why what was heard is no frame.
-#[derive(Clone, Copy)]
+#[derive(Clone, Copy, Debug, PartialEq, Eq)]
 pub enum FrameFault {
     /// nothing was heard
     Silence,
@@ -34,7 +34,7 @@ pub enum FrameFault {
 }
 
 /// Why what was heard is no block.
-#[derive(Clone, Copy)]
+#[derive(Clone, Copy, Debug, PartialEq, Eq)]
 pub enum BlockFault {
     /// it is no frame
     Frame(FrameFault),
@@ -58,22 +58,20 @@ impl FrameFault {
             FrameFault::Long => 22,
             FrameFault::Check => 23,
         };
-        Cause {
-            number,
-            place: 0,
-            layer: Layer::Frame,
-        }
+        Layer::Frame.cause(number, 0)
     }
 }
 
-/// A cause of the layer of blocks.
-fn of_block(number: u8, place: usize) -> Cause
-    ensures { cause_seen result ≡ cause number place block }
-{
-    Cause {
-        number,
-        place,
-        layer: Layer::Block,
+impl Layer {
+    /// A cause of this layer.
+    pub fn cause(self, number: u8, place: usize) -> Cause
+        ensures { cause_seen result ≡ cause number place (layer_seen self) }
+    {
+        Cause {
+            number,
+            place,
+            layer: self,
+        }
     }
 }
 
@@ -83,10 +81,10 @@ impl BlockFault {
     {
         match self {
             BlockFault::Frame(fault) => fault.cause(),
-            BlockFault::Control => of_block(24, 1),
-            BlockFault::Length => of_block(25, 0),
-            BlockFault::Card => of_block(26, 2),
-            BlockFault::Multiplier { place } => of_block(28, place),
+            BlockFault::Control => Layer::Block.cause(24, 1),
+            BlockFault::Length => Layer::Block.cause(25, 0),
+            BlockFault::Card => Layer::Block.cause(26, 2),
+            BlockFault::Multiplier { place } => Layer::Block.cause(28, place),
         }
     }
 }

@@ -3,294 +3,64 @@ ghost use Rattle.std.specs.Prelude.{◌≡◌};
 ghost use Rattle.frames.specs.Reading.{kind_of};
 ghost use Rattle.frames.specs.Kinds.{kind_seen};
 
-#[derive(Clone, Copy)]
+#[derive(Clone, Copy, Debug, PartialEq, Eq)]
 pub enum Kind {
     I,
     R,
     Deselect,
     Wait,
-    /// a control byte without a kind
-    Reserved,
 }
 
-static KINDS: [Kind; 256] = [
+const I: Option<Kind> = Some(Kind::I);
+
+const R: Option<Kind> = Some(Kind::R);
+
+const D: Option<Kind> = Some(Kind::Deselect);
+
+const W: Option<Kind> = Some(Kind::Wait);
+
+/// No block begins with this byte.
+const N: Option<Kind> = None;
+
+/// For each control byte the kind that it begins.
+static KINDS: [Option<Kind>; 256] = [
     // 00 to 0F
-    Kind::Reserved,
-    Kind::Reserved,
-    Kind::I, // 02
-    Kind::I, // 03
-    Kind::Reserved,
-    Kind::Reserved,
-    Kind::Reserved,
-    Kind::Reserved,
-    Kind::Reserved,
-    Kind::Reserved,
-    Kind::I, // 0A
-    Kind::I, // 0B
-    Kind::Reserved,
-    Kind::Reserved,
-    Kind::Reserved,
-    Kind::Reserved,
+    N, N, I, I, N, N, N, N, N, N, I, I, N, N, N, N,
     // 10 to 1F
-    Kind::Reserved,
-    Kind::Reserved,
-    Kind::I, // 12
-    Kind::I, // 13
-    Kind::Reserved,
-    Kind::Reserved,
-    Kind::Reserved,
-    Kind::Reserved,
-    Kind::Reserved,
-    Kind::Reserved,
-    Kind::I, // 1A
-    Kind::I, // 1B
-    Kind::Reserved,
-    Kind::Reserved,
-    Kind::Reserved,
-    Kind::Reserved,
+    N, N, I, I, N, N, N, N, N, N, I, I, N, N, N, N,
     // 20 to 2F
-    Kind::Reserved,
-    Kind::Reserved,
-    Kind::Reserved,
-    Kind::Reserved,
-    Kind::Reserved,
-    Kind::Reserved,
-    Kind::Reserved,
-    Kind::Reserved,
-    Kind::Reserved,
-    Kind::Reserved,
-    Kind::Reserved,
-    Kind::Reserved,
-    Kind::Reserved,
-    Kind::Reserved,
-    Kind::Reserved,
-    Kind::Reserved,
+    N, N, N, N, N, N, N, N, N, N, N, N, N, N, N, N,
     // 30 to 3F
-    Kind::Reserved,
-    Kind::Reserved,
-    Kind::Reserved,
-    Kind::Reserved,
-    Kind::Reserved,
-    Kind::Reserved,
-    Kind::Reserved,
-    Kind::Reserved,
-    Kind::Reserved,
-    Kind::Reserved,
-    Kind::Reserved,
-    Kind::Reserved,
-    Kind::Reserved,
-    Kind::Reserved,
-    Kind::Reserved,
-    Kind::Reserved,
+    N, N, N, N, N, N, N, N, N, N, N, N, N, N, N, N,
     // 40 to 4F
-    Kind::Reserved,
-    Kind::Reserved,
-    Kind::Reserved,
-    Kind::Reserved,
-    Kind::Reserved,
-    Kind::Reserved,
-    Kind::Reserved,
-    Kind::Reserved,
-    Kind::Reserved,
-    Kind::Reserved,
-    Kind::Reserved,
-    Kind::Reserved,
-    Kind::Reserved,
-    Kind::Reserved,
-    Kind::Reserved,
-    Kind::Reserved,
+    N, N, N, N, N, N, N, N, N, N, N, N, N, N, N, N,
     // 50 to 5F
-    Kind::Reserved,
-    Kind::Reserved,
-    Kind::Reserved,
-    Kind::Reserved,
-    Kind::Reserved,
-    Kind::Reserved,
-    Kind::Reserved,
-    Kind::Reserved,
-    Kind::Reserved,
-    Kind::Reserved,
-    Kind::Reserved,
-    Kind::Reserved,
-    Kind::Reserved,
-    Kind::Reserved,
-    Kind::Reserved,
-    Kind::Reserved,
+    N, N, N, N, N, N, N, N, N, N, N, N, N, N, N, N,
     // 60 to 6F
-    Kind::Reserved,
-    Kind::Reserved,
-    Kind::Reserved,
-    Kind::Reserved,
-    Kind::Reserved,
-    Kind::Reserved,
-    Kind::Reserved,
-    Kind::Reserved,
-    Kind::Reserved,
-    Kind::Reserved,
-    Kind::Reserved,
-    Kind::Reserved,
-    Kind::Reserved,
-    Kind::Reserved,
-    Kind::Reserved,
-    Kind::Reserved,
+    N, N, N, N, N, N, N, N, N, N, N, N, N, N, N, N,
     // 70 to 7F
-    Kind::Reserved,
-    Kind::Reserved,
-    Kind::Reserved,
-    Kind::Reserved,
-    Kind::Reserved,
-    Kind::Reserved,
-    Kind::Reserved,
-    Kind::Reserved,
-    Kind::Reserved,
-    Kind::Reserved,
-    Kind::Reserved,
-    Kind::Reserved,
-    Kind::Reserved,
-    Kind::Reserved,
-    Kind::Reserved,
-    Kind::Reserved,
+    N, N, N, N, N, N, N, N, N, N, N, N, N, N, N, N,
     // 80 to 8F
-    Kind::Reserved,
-    Kind::Reserved,
-    Kind::Reserved,
-    Kind::Reserved,
-    Kind::Reserved,
-    Kind::Reserved,
-    Kind::Reserved,
-    Kind::Reserved,
-    Kind::Reserved,
-    Kind::Reserved,
-    Kind::Reserved,
-    Kind::Reserved,
-    Kind::Reserved,
-    Kind::Reserved,
-    Kind::Reserved,
-    Kind::Reserved,
+    N, N, N, N, N, N, N, N, N, N, N, N, N, N, N, N,
     // 90 to 9F
-    Kind::Reserved,
-    Kind::Reserved,
-    Kind::Reserved,
-    Kind::Reserved,
-    Kind::Reserved,
-    Kind::Reserved,
-    Kind::Reserved,
-    Kind::Reserved,
-    Kind::Reserved,
-    Kind::Reserved,
-    Kind::Reserved,
-    Kind::Reserved,
-    Kind::Reserved,
-    Kind::Reserved,
-    Kind::Reserved,
-    Kind::Reserved,
+    N, N, N, N, N, N, N, N, N, N, N, N, N, N, N, N,
     // A0 to AF
-    Kind::Reserved,
-    Kind::Reserved,
-    Kind::R, // A2
-    Kind::R, // A3
-    Kind::Reserved,
-    Kind::Reserved,
-    Kind::Reserved,
-    Kind::Reserved,
-    Kind::Reserved,
-    Kind::Reserved,
-    Kind::R, // AA
-    Kind::R, // AB
-    Kind::Reserved,
-    Kind::Reserved,
-    Kind::Reserved,
-    Kind::Reserved,
+    N, N, R, R, N, N, N, N, N, N, R, R, N, N, N, N,
     // B0 to BF
-    Kind::Reserved,
-    Kind::Reserved,
-    Kind::R, // B2
-    Kind::R, // B3
-    Kind::Reserved,
-    Kind::Reserved,
-    Kind::Reserved,
-    Kind::Reserved,
-    Kind::Reserved,
-    Kind::Reserved,
-    Kind::R, // BA
-    Kind::R, // BB
-    Kind::Reserved,
-    Kind::Reserved,
-    Kind::Reserved,
-    Kind::Reserved,
+    N, N, R, R, N, N, N, N, N, N, R, R, N, N, N, N,
     // C0 to CF
-    Kind::Reserved,
-    Kind::Reserved,
-    Kind::Deselect, // C2
-    Kind::Reserved,
-    Kind::Reserved,
-    Kind::Reserved,
-    Kind::Reserved,
-    Kind::Reserved,
-    Kind::Reserved,
-    Kind::Reserved,
-    Kind::Deselect, // CA
-    Kind::Reserved,
-    Kind::Reserved,
-    Kind::Reserved,
-    Kind::Reserved,
-    Kind::Reserved,
+    N, N, D, N, N, N, N, N, N, N, D, N, N, N, N, N,
     // D0 to DF
-    Kind::Reserved,
-    Kind::Reserved,
-    Kind::Reserved,
-    Kind::Reserved,
-    Kind::Reserved,
-    Kind::Reserved,
-    Kind::Reserved,
-    Kind::Reserved,
-    Kind::Reserved,
-    Kind::Reserved,
-    Kind::Reserved,
-    Kind::Reserved,
-    Kind::Reserved,
-    Kind::Reserved,
-    Kind::Reserved,
-    Kind::Reserved,
+    N, N, N, N, N, N, N, N, N, N, N, N, N, N, N, N,
     // E0 to EF
-    Kind::Reserved,
-    Kind::Reserved,
-    Kind::Reserved,
-    Kind::Reserved,
-    Kind::Reserved,
-    Kind::Reserved,
-    Kind::Reserved,
-    Kind::Reserved,
-    Kind::Reserved,
-    Kind::Reserved,
-    Kind::Reserved,
-    Kind::Reserved,
-    Kind::Reserved,
-    Kind::Reserved,
-    Kind::Reserved,
-    Kind::Reserved,
+    N, N, N, N, N, N, N, N, N, N, N, N, N, N, N, N,
     // F0 to FF
-    Kind::Reserved,
-    Kind::Reserved,
-    Kind::Wait, // F2
-    Kind::Reserved,
-    Kind::Reserved,
-    Kind::Reserved,
-    Kind::Reserved,
-    Kind::Reserved,
-    Kind::Reserved,
-    Kind::Reserved,
-    Kind::Wait, // FA
-    Kind::Reserved,
-    Kind::Reserved,
-    Kind::Reserved,
-    Kind::Reserved,
-    Kind::Reserved,
+    N, N, W, N, N, N, N, N, N, N, W, N, N, N, N, N,
 ];
 
-/// The kind of block that `control` begins.
-pub fn kind_of(control: u8) -> Kind
+/// The kind of block that `control` begins, if it begins any.
+pub fn kind_of(control: u8) -> Option<Kind>
     ensures { kind_seen result ≡ kind_of control }
 {
-    KINDS[control as usize]
+    KINDS[usize::from(control)]
 }

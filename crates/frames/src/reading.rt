@@ -1,11 +1,11 @@
 //! Reading a received frame as a block: the tests in their order, each with its fault.
-ghost use Rattle.std.specs.Prelude.{◌≡◌, ℕ, ◌/◌, ◌%◌, ◌<◌, true, List, length, drop, if◌then◌else◌};
-ghost use Rattle.frames.specs.Blocks.{follows, wait};
+ghost use Rattle.std.specs.Prelude.{◌≡◌, ℕ, ◌/◌, ◌%◌, ◌<◌, true, List, [], ◌∷◌, length, drop, if◌then◌else◌, slice_index, Some, None, IfOk};
+ghost use Rattle.frames.specs.Blocks.{follows, wait, ValidBlock};
 ghost use Rattle.frames.specs.Causes.{multiplier_reserved};
 ghost use Rattle.frames.specs.Check.{body_of};
 ghost use Rattle.frames.specs.Kinds.{kind_seen};
 ghost use Rattle.frames.specs.Reading.{has, length_fits, cid_size, cid_of, cid_good, agrees, block_of, read_rest, read_body, read_frame, multiplier_good, valid, invalid};
-ghost use Rattle.frames.specs.Views.{cid_seen, agreement, seen, information_place, Placed};
+ghost use Rattle.frames.specs.Views.{cid_seen, block_seen, agreement, seen, information_place, Placed};
 
 use super::block::{Agreed, Block, CardNumber, information_place};
 use super::control::{CARD, FLAG, NUMBER, has_bit};
@@ -13,24 +13,15 @@ use super::fault::BlockFault;
 use super::frame::unseal;
 use super::kind::{Kind, kind_of};
 
-/// How many bytes a card number takes.
-fn card_size(follows: bool) -> usize
-    ensures { result ≡ cid_size follows }
-{
-    if follows { 1 } else { 0 }
-}
-
 /// As many bytes stand behind the control byte as blocks of the kind have.
 fn fits(kind: Kind, follows: bool, n: usize) -> bool
-    ensures { result ≡ length_fits (kind_seen kind) follows n }
+    ensures { result ≡ length_fits (kind_seen (Some kind)) follows n }
 {
-    let card = card_size(follows);
+    let card = usize::from(follows);
     match kind {
         Kind::I => n > card,
-        Kind::R => n == card,
-        Kind::Deselect => n == card,
+        Kind::R | Kind::Deselect => n == card,
         Kind::Wait => n == card + 1,
-        Kind::Reserved => false,
     }
 }
 
@@ -40,40 +31,38 @@ impl Agreed {
         ensures { result ≡ agrees (agreement self) (cid_seen card) }
     {
         match (self, card) {
-            (Agreed::NoNumber, None) => true,
-            (Agreed::NoNumber, Some(_)) => false,
-            (Agreed::Number(_), None) => false,
             (Agreed::Number(n), Some(c)) => c.number == n,
-            (Agreed::ZeroOrNone, None) => true,
             (Agreed::ZeroOrNone, Some(c)) => c.number == 0,
+            (Agreed::NoNumber | Agreed::ZeroOrNone, None) => true,
+            (Agreed::NoNumber, Some(_)) | (Agreed::Number(_), None) => false,
         }
     }
 }
 
-/// The card number byte is one: 00 in b6 b5, and no number 15.
-fn good_card(follows: bool, rest: &[u8]) -> bool
+/// The card number byte behind the control byte, where one follows.
+fn card_byte(follows: bool, rest: &[u8]) -> Option<u8>
     requires { follows ≡ true → 0 < length rest.now }
-    ensures { result ≡ cid_good follows rest.now }
+    ensures { result ≡ (if follows then Some (slice_index rest.now 0) else None) }
 {
-    if follows {
-        rest[0] & 0x30 == 0 && rest[0] % 16 < 15
-    } else {
-        true
-    }
+    follows.then(|| rest[0])
 }
 
-/// The card number that stands behind the control byte, where one follows.
-fn card_of(follows: bool, rest: &[u8]) -> Option<CardNumber>
-    requires { follows ≡ true → 0 < length rest.now }
-    ensures { cid_seen result ≡ cid_of follows rest.now }
+/// A card number byte is one: 00 in b6 b5, and no number 15.
+fn is_card_number(byte: u8) -> bool
+    ensures { result ≡ cid_good true (byte ∷ []) }
 {
-    if follows {
-        Some(CardNumber {
-            number: rest[0] % 16,
-            power: rest[0] / 64,
-        })
-    } else {
-        None
+    byte & 0x30 == 0 && byte % 16 < 15
+}
+
+impl From<u8> for CardNumber {
+    ghost from_gives = { λ byte card. cid_seen (Some card) ≡ cid_of true (byte ∷ []) };
+
+    /// The card number and the power level of a card number byte.
+    fn from(byte: u8) -> CardNumber {
+        CardNumber {
+            number: byte % 16,
+            power: byte / 64,
+        }
     }
 }
 
@@ -103,8 +92,8 @@ fn block_of<'a>(
     rest: &'a [u8],
 ) -> Result<Block<'a>, BlockFault>
     requires follows { follows (cid_seen card) ≡ has 0x08 control }
-    requires long { length_fits (kind_seen kind) (has 0x08 control) (length rest.now) ≡ true }
-    ensures value { seen result ≡ block_of (kind_seen kind) control (cid_seen card) (drop (cid_size (has 0x08 control)) rest.now) }
+    requires long { length_fits (kind_seen (Some kind)) (has 0x08 control) (length rest.now) ≡ true }
+    ensures value { seen result ≡ block_of (kind_seen (Some kind)) control (cid_seen card) (drop (cid_size (has 0x08 control)) rest.now) }
     ensures placed { Placed 2 rest.now result }
 {
     let place = information_place(card);
@@ -123,7 +112,6 @@ fn block_of<'a>(
         }),
         Kind::Deselect => Ok(Block::Deselect { card }),
         Kind::Wait => wait_of(rest[place - 2], card),
-        Kind::Reserved => Err(BlockFault::Control),
     }
 }
 
@@ -134,15 +122,16 @@ fn read_rest<'a>(
     control: u8,
     rest: &'a [u8],
 ) -> Result<Block<'a>, BlockFault>
-    ensures value { seen result ≡ read_rest (agreement agreed) (kind_seen kind) control rest.now }
+    ensures value { seen result ≡ read_rest (agreement agreed) (kind_seen (Some kind)) control rest.now }
     ensures placed { Placed 2 rest.now result }
 {
     let follows = has_bit(CARD, control);
     if !fits(kind, follows, rest.len()) {
         return Err(BlockFault::Length);
     }
-    let card = card_of(follows, rest);
-    if !good_card(follows, rest) || !agreed.takes(card) {
+    let byte = card_byte(follows, rest);
+    let card = byte.map(CardNumber::from);
+    if !byte.is_none_or(is_card_number) || !agreed.takes(card) {
         return Err(BlockFault::Card);
     }
     block_of(kind, control, card, rest)
@@ -155,10 +144,10 @@ fn read_body<'a>(agreed: Agreed, body: &'a [u8]) -> Result<Block<'a>, BlockFault
     let Some((control, rest)) = body.split_first() else {
         return Err(BlockFault::Control);
     };
-    match kind_of(*control) {
-        Kind::Reserved => Err(BlockFault::Control),
-        kind => read_rest(agreed, kind, *control, rest),
-    }
+    let Some(kind) = kind_of(*control) else {
+        return Err(BlockFault::Control);
+    };
+    read_rest(agreed, kind, *control, rest)
 }
 
 /// Reads a frame as a receiver does whose frame size is `limit`. The information of an I-block is a part of `frame`.
@@ -168,6 +157,7 @@ pub fn read_block<'a>(
     agreed: Agreed,
 ) -> Result<Block<'a>, BlockFault>
     ensures value { seen result ≡ read_frame limit (agreement agreed) frame.now }
+    ensures valid { IfOk result (λ b. ValidBlock (block_seen b)) }
     ensures placed { Placed 1 (body_of frame.now) result }
 {
     let body = unseal(frame, limit)?;

@@ -15,10 +15,7 @@ use buffers::put;
 fn card_in_range(card: Option<CardNumber>) -> bool
     ensures { result ≡ cid_in_range (cid_seen card) }
 {
-    match card {
-        Some(c) => c.number < 15 && c.power < 4,
-        None => true,
-    }
+    card.is_none_or(|c| c.number < 15 && c.power < 4)
 }
 
 /// The block's numbers are in their ranges.
@@ -26,9 +23,9 @@ fn in_range(block: Block<'_>) -> bool
     ensures { result ≡ in_range (block_seen block.entry) }
 {
     match block {
-        Block::I { card, .. } => card_in_range(card),
-        Block::R { card, .. } => card_in_range(card),
-        Block::Deselect { card } => card_in_range(card),
+        Block::I { card, .. } | Block::R { card, .. } | Block::Deselect { card } => card_in_range(
+            card,
+        ),
         Block::Wait {
             multiplier,
             power,
@@ -114,9 +111,7 @@ fn is_sendable(block: Block<'_>) -> bool
             ..
         } => !information.is_empty()
             && information_place(card) - 1 + information.len() <= LONGEST_BODY,
-        Block::R { .. } => true,
-        Block::Deselect { .. } => true,
-        Block::Wait { .. } => true,
+        Block::R { .. } | Block::Deselect { .. } | Block::Wait { .. } => true,
     }
 }
 

@@ -1,18 +1,18 @@
-use Rattle.std.proofs.Common.{◌≡◌, refl, ap, ◌∙◌, arith}
+use Rattle.std.proofs.Common.{◌≡◌, Some, None, Option, refl, ap, ◌∙◌, arith}
 use Rattle.std.proofs.lemmas.List.FromFn.{get_or-map-range_with_len}
 use Rattle.frames.specs.declared.kind.Kind as table
-use Rattle.frames.specs.declared.kind.Kind.TheVariants.{I, R, Deselect, Wait, Reserved}
+use Rattle.frames.specs.declared.kind.Kind.TheVariants.{I, R, Deselect, Wait}
 use Rattle.frames.specs.Reading.{Kind, kind_of, i_kind, r_kind, deselect_kind, wait_kind, no_kind}
 use Rattle.frames.specs.Kinds.{kind_seen}
 use Rattle.frames.proofs.kind.kind_of.Goals as goal
 
 -- the table's entry for a kind
-abbrev entry : Kind → table.Kind
-entry i_kind = I
-entry r_kind = R
-entry deselect_kind = Deselect
-entry wait_kind = Wait
-entry no_kind = Reserved
+abbrev entry : Kind → Option table.Kind
+entry i_kind = Some I
+entry r_kind = Some R
+entry deselect_kind = Some Deselect
+entry wait_kind = Some Wait
+entry no_kind = None
 
 seen_entry : (k : Kind) → kind_seen (entry k) ≡ k
 seen_entry i_kind = refl
@@ -25,5 +25,6 @@ seen_entry no_kind = refl
 pub returns : goal.returns
 returns c =
     let control = c.args.control in
-    ap kind_seen (get_or-map-range_with_len (λ b. entry (kind_of b)) 0 256 control control I (omega arith) (omega arith))
-    ∙ seen_entry (kind_of control)
+    rw c.from.ensures
+    (ap kind_seen (get_or-map-range_with_len (λ b. entry (kind_of b)) 0 256 control control None (omega arith) (omega arith))
+    ∙ seen_entry (kind_of control))

@@ -3,6 +3,7 @@ use Rattle.std.proofs.lemmas.Result.{err_from_is_err_and}
 use Rattle.frames.specs.Check.{opened, unopened}
 use Rattle.frames.specs.Faults.{frame_cause}
 use Rattle.frames.specs.Views.{agreement, Placed}
+use Rattle.frames.proofs.BlockLaws.{valid_read}
 use Rattle.frames.proofs.Opening.{opened_front, read_by}
 use Rattle.frames.proofs.reading.read_block.Goals as goal
 
@@ -14,6 +15,7 @@ returns-in_err-body c =
       value =
           read_by c.args.limit (agreement c.args.agreed) c.args.frame.now
           (unopened (frame_cause c.in_err-body.field-0.0)) c.in_err-body.ensures;
+      valid = tt;
       placed = tt;
     })
 
@@ -21,10 +23,12 @@ pub returns : goal.returns
 returns c =
     let is = c.in_ok-body.ensures in
     let body = c.in_ok-body.body.now in
+    let read =
+    c.read_body.ensures.value ∙ read_by c.args.limit (agreement c.args.agreed) c.args.frame.now (opened body) is in
     record {
-      value =
-          c.read_body.ensures.value
-          ∙ read_by c.args.limit (agreement c.args.agreed) c.args.frame.now (opened body) is;
+      value = read;
+      valid =
+          valid_read c.args.limit (agreement c.args.agreed) c.args.frame.now c.read_body.result (λ k. (c.type_inv.frame k).fits) read;
       placed =
           subst (λ l. Placed 1 l c.read_body.result)
           (opened_front c.args.limit c.args.frame.now body is) c.read_body.ensures.placed;
