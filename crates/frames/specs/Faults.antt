@@ -1,4 +1,5 @@
 -- The cause that each fault stands for.
+use Rattle.std.specs.Prelude.{ℕ, List, codes}
 use Rattle.frames.specs.declared.fault.Layer as coded
 use Rattle.frames.specs.declared.fault.Layer.TheVariants as layers
 use Rattle.frames.specs.declared.fault.Cause as held
@@ -12,6 +13,12 @@ abbrev pub layer_seen : coded.Layer → Layer
 layer_seen layers.Frame = frame
 layer_seen layers.Activation = activation
 layer_seen layers.Block = block
+
+-- the name of a layer, as it is printed
+abbrev pub layer_name : coded.Layer → List ℕ
+layer_name layers.Frame = codes "frame"
+layer_name layers.Activation = codes "activation"
+layer_name layers.Block = codes "block"
 
 abbrev pub cause_seen : held.Cause → Cause
 cause_seen c = cause c.number c.place (layer_seen c.layer)

@@ -1,8 +1,10 @@
 //! Why what was heard is no frame, or no block.
-ghost use Rattle.std.specs.Prelude.{◌≡◌};
+ghost use Rattle.std.specs.Prelude.{◌≡◌, Some};
 ghost use Rattle.frames.specs.Causes.{cause};
-ghost use Rattle.frames.specs.Faults.{layer_seen, cause_seen, frame_cause, block_cause};
+ghost use Rattle.frames.specs.Faults.{layer_seen, layer_name, cause_seen, frame_cause, block_cause};
 ghost use Rattle.frames.specs.declared.fault.BlockFault.TheVariants.{Frame as frame_fault};
+
+use std::fmt;
 
 /// The layer at which a cause was found.
 #[derive(Clone, Copy, Debug, PartialEq, Eq)]
@@ -10,6 +12,18 @@ pub enum Layer {
     Frame,
     Activation,
     Block,
+}
+
+impl fmt::Display for Layer {
+    ghost output = { λ layer. Some (layer_name layer) };
+
+    fn fmt<W: fmt::Write>(&self, f: &mut fmt::Formatter<W>) -> fmt::Result {
+        f.write_str(match self {
+            Layer::Frame => "frame",
+            Layer::Activation => "activation",
+            Layer::Block => "block",
+        })
+    }
 }
 
 /// A cause: its number, the place of the byte at fault, counted from 1 (0 where there is none), and its layer.
