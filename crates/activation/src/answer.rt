@@ -19,9 +19,10 @@ const TB: u8 = 0x20;
 
 const TC: u8 = 0x40;
 
-/// Bits that are 0 in T0 and in TA.
+/// A bit that is 0 in T0.
 const T0_ZERO: u8 = 0x80;
 
+/// A bit that is 0 in TA.
 const TA_ZERO: u8 = 0x08;
 
 /// What holds where a byte is absent: frame size code 2, divisor 1, waiting time 4 and guard time 0, card numbers.
@@ -33,8 +34,8 @@ const NO_TB: u8 = 0x40;
 
 const NO_TC: u8 = 0x02;
 
-/// The codes of times are below this.
-const TIMES: u8 = 15;
+/// The codes of times are below this one.
+pub const TIMES: u8 = 15;
 
 /// TC has two bits.
 const TC_VALUES: u8 = 4;
@@ -44,7 +45,7 @@ const BEHIND_T0: usize = 3;
 
 /// What an ATS says: the code of the card's frame size, the divisors offered, the codes of the waiting time and the guard
 /// time, what else is supported, and the historical bytes, as a part of what was heard.
-#[derive(Clone, Copy)]
+#[derive(Clone, Copy, Debug, PartialEq, Eq)]
 pub struct Ats<'a> {
     pub fsci: u8,
     pub ta: u8,
@@ -71,17 +72,7 @@ impl Ats<'_> {
 fn announced(t0: u8) -> usize
     ensures { result ≡ announced t0 }
 {
-    let mut n = 0;
-    if t0 & TA != 0 {
-        n += 1;
-    }
-    if t0 & TB != 0 {
-        n += 1;
-    }
-    if t0 & TC != 0 {
-        n += 1;
-    }
-    n
+    usize::from(t0 & TA != 0) + usize::from(t0 & TB != 0) + usize::from(t0 & TC != 0)
 }
 
 /// The byte that stands first if it is there, else what holds without it, and the bytes behind.

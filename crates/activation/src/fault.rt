@@ -1,13 +1,12 @@
 //! Why what was heard is no ATS, or no response to a PPS.
 ghost use Rattle.std.specs.Prelude.{◌≡◌};
-ghost use Rattle.frames.specs.Causes.{cause, activation};
 ghost use Rattle.frames.specs.Faults.{cause_seen};
 ghost use Rattle.activation.specs.Faults.{activation_cause};
 ghost use Rattle.activation.specs.declared.fault.ActivationFault.TheVariants.{Frame as frame_fault};
 
 use frames::{Cause, FrameFault, Layer};
 
-#[derive(Clone, Copy)]
+#[derive(Clone, Copy, Debug, PartialEq, Eq)]
 pub enum ActivationFault {
     /// it is no frame
     Frame(FrameFault),
@@ -19,26 +18,15 @@ pub enum ActivationFault {
     Reserved { place: usize },
 }
 
-/// A cause of the layer of activation.
-fn of_activation(number: u8, place: usize) -> Cause
-    ensures { cause_seen result ≡ cause number place activation }
-{
-    Cause {
-        number,
-        place,
-        layer: Layer::Activation,
-    }
-}
-
 impl ActivationFault {
     pub fn cause(self) -> Cause
         ensures { cause_seen result ≡ activation_cause self }
     {
         match self {
             ActivationFault::Frame(fault) => fault.cause(),
-            ActivationFault::Response => of_activation(24, 1),
-            ActivationFault::LengthByte => of_activation(27, 1),
-            ActivationFault::Reserved { place } => of_activation(28, place),
+            ActivationFault::Response => Layer::Activation.cause(24, 1),
+            ActivationFault::LengthByte => Layer::Activation.cause(27, 1),
+            ActivationFault::Reserved { place } => Layer::Activation.cause(28, place),
         }
     }
 }

@@ -17,7 +17,7 @@ const START: u8 = 0xE0;
 pub const CARD_NUMBERS: u8 = 15;
 
 /// The code of the reader's frame size, and the card's number.
-#[derive(Clone, Copy)]
+#[derive(Clone, Copy, Debug, PartialEq, Eq)]
 pub struct Rats {
     pub fsdi: u8,
     pub cid: u8,
@@ -44,7 +44,7 @@ pub fn rats_of(body: &[u8]) -> Option<Rats>
         fsdi: parameter / 16,
         cid: parameter % 16,
     };
-    if rats.is_valid() { Some(rats) } else { None }
+    rats.is_valid().then_some(rats)
 }
 
 /// A frame as a RATS, at a card of this frame size.
@@ -52,10 +52,7 @@ pub fn read_rats(frame: &[u8], limit: usize) -> Option<Rats>
     ensures read { rats_seen result ≡ hear_rats limit frame.now }
     ensures valid { IfSome result RatsInRange }
 {
-    match unseal(frame, limit) {
-        Ok(body) => rats_of(body),
-        Err(_) => None,
-    }
+    rats_of(unseal(frame, limit).ok()?)
 }
 
 /// Writes the frame of a RATS to the front of `out`, and answers its length.

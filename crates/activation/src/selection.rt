@@ -28,7 +28,7 @@ const TO_CARD: u8 = 0x01;
 const SAME: u8 = 0x80;
 
 /// The card's number, and the codes of the divisors from the card and to it.
-#[derive(Clone, Copy)]
+#[derive(Clone, Copy, Debug, PartialEq, Eq)]
 pub struct Pps {
     pub cid: u8,
     pub dsi: u8,
@@ -73,10 +73,7 @@ pub fn read_pps(frame: &[u8], limit: usize, cid: u8) -> Option<Pps>
     ensures read { pps_seen result ≡ hear_pps limit cid frame.now }
     ensures valid { IfSome result (PpsFor cid) }
 {
-    match unseal(frame, limit) {
-        Ok(body) => pps_of(body, cid),
-        Err(_) => None,
-    }
+    pps_of(unseal(frame, limit).ok()?, cid)
 }
 
 /// Writes the frame of a PPS to the front of `out`, and answers its length.

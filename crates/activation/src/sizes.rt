@@ -13,8 +13,5 @@ static SIZES: [usize; 9] = [16, 24, 32, 40, 48, 64, 96, 128, GREATEST_FRAME];
 pub fn size_of_code(code: u8) -> Option<usize>
     ensures { result ≡ size_for code }
 {
-    if code > GREATEST_CODE {
-        return None;
-    }
-    Some(SIZES[usize::from(code)])
+    SIZES.get(usize::from(code)).copied()
 }
