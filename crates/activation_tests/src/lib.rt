@@ -4,31 +4,18 @@
 #[cfg(test)]
 mod tests {
     use activation::*;
-    use frames::{Cause, GREATEST_FRAME, Layer, Refusal};
+    use frames::{GREATEST_FRAME, Layer, Refusal};
     use std::test::Fail;
 
     /// The frame was written to the front of the buffer, and its length answered.
     fn wrote(res: Result<usize, Refusal>, out: &[u8], frame: &[u8]) -> bool {
-        match res {
-            Ok(n) => n == frame.len() && out.starts_with(frame),
-            Err(_) => false,
-        }
-    }
-
-    /// A cause of activation.
-    fn is_cause(cause: Cause, number: u8, place: usize) -> bool {
-        match cause.layer {
-            Layer::Activation => cause.number == number && cause.place == place,
-            _ => false,
-        }
+        res == Ok(frame.len()) && out.starts_with(frame)
     }
 
     /// The frame is refused as an ATS, by this cause of activation.
     fn fails(frame: &[u8], number: u8, place: usize) -> bool {
-        match hear_ats(frame, GREATEST_FRAME) {
-            Ok(_) => false,
-            Err(fault) => is_cause(fault.cause(), number, place),
-        }
+        hear_ats(frame, GREATEST_FRAME).is_err_and(|fault| fault.cause()
+            == Layer::Activation.cause(number, place))
     }
 
     #[test]
@@ -86,20 +73,11 @@ mod tests {
         let result = write_ats(said, &mut out);
         let frame = [0x06, 0x75, 0x80, 0x71, 0x02, 0x80, 0x3C, 0x5C];
         assert!(rt; wrote(result, &out, &frame));
-        match hear_ats(&frame, 16) {
-            Ok(a) => {
-                assert!(rt;
-                    a.fsci == 5
-                        && a.ta == 0x80
-                        && a.fwi == 7
-                        && a.sfgi == 1
-                        && a.tc == 0x02
-                        && a.historical.len() == 1
-                );
-                Ok(())
-            },
-            Err(_) => Err(Fail::new("a good ATS is refused")),
-        }
+        let Ok(a) = hear_ats(&frame, 16) else {
+            return Err(Fail::new("a good ATS is refused"));
+        };
+        assert_eq!(rt; a, said);
+        Ok(())
     }
 
     #[test]

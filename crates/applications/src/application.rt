@@ -10,7 +10,7 @@ pub const LONGEST_ANSWER: usize = ANSWER_ROOM;
 
 /// How an application answers: it asks for so many waits, each with the multiplier, and then the answer has so many
 /// bytes.
-#[derive(Clone, Copy, Drop)]
+#[derive(Clone, Copy, Debug, PartialEq, Eq)]
 pub struct Reply {
     pub len: usize,
     pub waits: u8,

@@ -5,7 +5,7 @@ ghost use Rattle.applications.specs.Command.{judged, head_faults, parts_of, as_p
 use crate::status::StatusWord;
 
 /// A command of the application's class: what stands behind the class byte.
-#[derive(Clone, Copy)]
+#[derive(Clone, Copy, Debug, PartialEq, Eq)]
 pub struct Command<'a> {
     pub instruction: u8,
     pub p1: u8,

@@ -14,7 +14,7 @@ mod request;
 /// The multiplier of the wait before a draw's answer.
 const DRAW_MULTIPLIER: u8 = 2;
 
-#[derive(Drop)]
+#[derive(Debug, PartialEq, Eq, Drop)]
 pub struct Metre {
     count: u32,
 }

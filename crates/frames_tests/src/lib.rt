@@ -41,12 +41,7 @@ mod tests {
         };
         assert!(rt; n == 4);
         assert_eq!(rt; &buffer[0..4], [0xBA, 0x41, 0x33, 0x8A].as_slice());
-        match read_block(&buffer[0..4], 16, Agreed::Number(1)) {
-            Ok(Block::R { nak, number, .. }) => {
-                assert!(rt; nak && !number);
-                Ok(())
-            },
-            _ => Err(Fail::new("another block")),
-        }
+        assert_eq!(rt; read_block(&buffer[0..4], 16, Agreed::Number(1)), Ok(sent));
+        Ok(())
     }
 }

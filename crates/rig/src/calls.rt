@@ -9,6 +9,8 @@ ghost use Rattle.rig.specs.Reports.{agreed_by, read_by, read_number, reported, s
 use super::report::{Report, of_block, of_cause};
 use frames::{Agreed, read_block};
 
+/// The numbers that both calls answer are those of the header: C has no `Result`.
+///
 /// Seals `body` into `out`, and gives the frame's length.
 pub fn hurimpas_seal(body: &[u8], out: &mut [u8], n: &mut usize) -> u8
     ensures number { result ≡ seal_number (sealing body.now (length out.old)) }
@@ -24,7 +26,7 @@ pub fn hurimpas_seal(body: &[u8], out: &mut [u8], n: &mut usize) -> u8
     }
 }
 
-/// An agreement on card numbers, by number.
+/// An agreement on card numbers, by the number that C hands in.
 fn agreed_by(n: u8) -> Option<Agreed>
     ensures { option_map agreement result ≡ agreed_by n }
 {

@@ -3,12 +3,13 @@ ghost use Rattle.std.specs.Prelude.{◌≡◌};
 ghost use Rattle.frames.specs.Faults.{layer_seen, cause_seen};
 ghost use Rattle.frames.specs.Reading.{valid, invalid};
 ghost use Rattle.frames.specs.Views.{cid_seen, block_seen};
-ghost use Rattle.rig.specs.Reports.{bit, layer_number, report, report_of};
+ghost use Rattle.rig.specs.Reports.{layer_number, report, report_of};
 
 use frames::{Block, CardNumber, Cause, Layer, information_place};
 
+/// The kind of a block, its layer and its flags are numbers: C reads them by the header's names.
 #[repr(C)]
-#[derive(Clone, Copy)]
+#[derive(Clone, Copy, Debug, Default, PartialEq, Eq)]
 pub struct Report {
     pub kind: u8,
     pub number: u8,
@@ -25,28 +26,7 @@ pub struct Report {
     pub length: usize,
 }
 
-const NOTHING: Report = Report {
-    kind: 0,
-    number: 0,
-    chaining: 0,
-    nak: 0,
-    card_given: 0,
-    card_number: 0,
-    card_power: 0,
-    multiplier: 0,
-    wait_power: 0,
-    cause: 0,
-    layer: 0,
-    place: 0,
-    length: 0,
-};
-
-fn bit_of(flag: bool) -> u8
-    ensures { result ≡ bit flag }
-{
-    if flag { 1 } else { 0 }
-}
-
+/// C knows layers by number, so this match stays.
 fn layer_number(layer: Layer) -> u8
     ensures { result ≡ layer_number (layer_seen layer) }
 {
@@ -61,15 +41,15 @@ fn layer_number(layer: Layer) -> u8
 fn with_card(card: Option<CardNumber>) -> Report
     ensures { result ≡ report 0 0 0 0 (cid_seen card) 0 0 0 0 0 0 }
 {
-    match card {
-        Some(c) => Report {
+    card.map_or(
+        Report::default(),
+        |c| Report {
             card_given: 1,
             card_number: c.number,
             card_power: c.power,
-            ..NOTHING
+            ..Report::default()
         },
-        None => NOTHING,
-    }
+    )
 }
 
 pub fn of_block(block: Block<'_>) -> Report
@@ -84,16 +64,16 @@ pub fn of_block(block: Block<'_>) -> Report
             ..
         } => Report {
             kind: 1,
-            number: bit_of(number),
-            chaining: bit_of(chaining),
+            number: u8::from(number),
+            chaining: u8::from(chaining),
             place: information_place(card),
             length: information.len(),
             ..with_card(card)
         },
         Block::R { nak, number, card } => Report {
             kind: 2,
-            number: bit_of(number),
-            nak: bit_of(nak),
+            number: u8::from(number),
+            nak: u8::from(nak),
             ..with_card(card)
         },
         Block::Deselect { card } => Report {
@@ -120,6 +100,6 @@ pub fn of_cause(cause: Cause) -> Report
         cause: cause.number,
         layer: layer_number(cause.layer),
         place: cause.place,
-        ..NOTHING
+        ..Report::default()
     }
 }

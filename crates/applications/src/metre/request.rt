@@ -10,16 +10,18 @@ const CLASS: u8 = 0x80;
 /// A count has four bytes, high first.
 const COUNT_SIZE: u8 = 4;
 
-#[derive(Clone, Copy)]
+#[derive(Clone, Copy, Debug, PartialEq, Eq)]
 pub enum Instruction {
     DrawMetres,
     AskCount,
 }
 
-impl Instruction {
-    fn of(byte: u8) -> Result<Instruction, StatusWord>
-        ensures { result ≡ instruction_of byte }
-    {
+impl TryFrom<u8> for Instruction {
+    type Error = StatusWord;
+
+    ghost try_from_gives = { λ byte read. read ≡ instruction_of byte };
+
+    fn try_from(byte: u8) -> Result<Instruction, StatusWord> {
         match byte {
             0x10 => Ok(Instruction::DrawMetres),
             0x12 => Ok(Instruction::AskCount),
@@ -28,7 +30,7 @@ impl Instruction {
     }
 }
 
-#[derive(Clone, Copy)]
+#[derive(Clone, Copy, Debug, PartialEq, Eq)]
 pub enum Request {
     Draw(u32),
     Ask,
@@ -40,7 +42,7 @@ impl Request {
         ensures { result ≡ request_of command.now }
     {
         let command = Command::of_class(CLASS, command)?;
-        let instruction = Instruction::of(command.instruction)?;
+        let instruction = Instruction::try_from(command.instruction)?;
         if command.p1 != 0 || command.p2 != 0 {
             return Err(StatusWord::WrongParameters);
         }

@@ -9,16 +9,18 @@ use crate::status::StatusWord;
 
 const CLASS: u8 = 0x00;
 
-#[derive(Clone, Copy)]
+#[derive(Clone, Copy, Debug, PartialEq, Eq)]
 pub enum Instruction {
     ReadBinary,
     UpdateBinary,
 }
 
-impl Instruction {
-    fn of(byte: u8) -> Result<Instruction, StatusWord>
-        ensures { result ≡ instruction_of byte }
-    {
+impl TryFrom<u8> for Instruction {
+    type Error = StatusWord;
+
+    ghost try_from_gives = { λ byte read. read ≡ instruction_of byte };
+
+    fn try_from(byte: u8) -> Result<Instruction, StatusWord> {
         match byte {
             0xb0 => Ok(Instruction::ReadBinary),
             0xd6 => Ok(Instruction::UpdateBinary),
@@ -34,7 +36,7 @@ fn read_length(le: u8) -> usize
     if le == 0 { 256 } else { usize::from(le) }
 }
 
-#[derive(Clone, Copy)]
+#[derive(Clone, Copy, Debug, PartialEq, Eq)]
 pub enum Request<'a> {
     Read { offset: usize, len: usize },
     Write { offset: usize, bytes: &'a [u8] },
@@ -46,7 +48,7 @@ impl<'a> Request<'a> {
         ensures { as_wanted result ≡ request_of command.now }
     {
         let command = Command::of_class(CLASS, command)?;
-        let instruction = Instruction::of(command.instruction)?;
+        let instruction = Instruction::try_from(command.instruction)?;
         let offset = usize::from(command.p1) * 256 + usize::from(command.p2);
         match (instruction, command.body) {
             (Instruction::ReadBinary, [le]) => {
