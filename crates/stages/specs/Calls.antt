@@ -4,8 +4,6 @@ use Rattle.exchange.specs.Moves.{buffer_after}
 use Rattle.frames.specs.Sizes.{greatest_frame}
 use Rattle.protocol.specs.Reader.{Reader, Outcome, Move, Call, Event, do_call, guarded, hear, listens}
 use Rattle.protocol.specs.Settings.{ReaderSettings}
-use Rattle.stages.specs.Setups.{setup_seen}
-use Rattle.stages.specs.declared.setup.Setup.{Setup}
 
 -- what a call answers: its outcome, and the length that it tells of a frame or an answer, 0 where there is none
 pub record Reply : Type 0 where
@@ -18,8 +16,9 @@ pub record Told : Type 0 where
   pub move : Move
   pub size : ℕ
 
-abbrev pub told : Setup → Reader → Reply → Told
-told s r p = record { settings = setup_seen s; move = record { reader = r; outcome = p.outcome }; size = p.size }
+-- a session of these settings that stands for this reader has answered
+abbrev pub told : ReaderSettings → Reader → Reply → Told
+told s r p = record { settings = s; move = record { reader = r; outcome = p.outcome }; size = p.size }
 
 -- The session keeps its settings and makes this move; the buffer holds the frame or the answer of the move at its front,
 -- all of it, and every other byte is as it was.

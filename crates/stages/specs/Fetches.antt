@@ -7,7 +7,6 @@ use Rattle.frames.specs.Refused.{refusal_number}
 use Rattle.frames.specs.declared.refusal.Refusal.{Refusal}
 use Rattle.protocol.specs.Reader.{Reader, Outcome, refused, fetched, do_call, fetch}
 use Rattle.protocol.specs.Settings.{ReaderSettings}
-use Rattle.stages.specs.Calls.{Reply}
 
 -- the outcome of a fetch, with the buffer after it
 abbrev pub fetch_seen : Result ℕ Refusal → List ℕ → Outcome
@@ -18,9 +17,6 @@ fetch_seen (Err why) buffer = refused (refusal_number why)
 abbrev pub fetch_told : Result ℕ Refusal → ℕ
 fetch_told (Ok n) = n
 fetch_told (Err why) = 0
-
-abbrev pub fetch_reply : Result ℕ Refusal → List ℕ → Reply
-fetch_reply got buffer = record { outcome = fetch_seen got buffer; size = fetch_told got }
 
 -- an answer goes to the front of a buffer that holds the longest
 abbrev pub fetching : List ℕ → ℕ → Outcome

@@ -33,6 +33,6 @@ pub record Writes (frame : List ℕ) (r : Result Sent Refusal) (old new : List �
   pub within : length_told r ≤ length new
 
 -- what was heard in place of an ATS
-abbrev pub answer_seen : Result heard.Ats SessionFault → AtsRead
-answer_seen (Ok a) = good (said_by a)
-answer_seen (Err why) = bad (session_cause why)
+abbrev pub ats_seen : Result heard.Ats SessionFault → AtsRead
+ats_seen (Ok a) = good (said_by a)
+ats_seen (Err why) = bad (session_cause why)

@@ -1,12 +1,13 @@
 -- What each stage stands for: the reader as the model has it.
-use Rattle.std.specs.Prelude.{ℕ, Some, None, Option}
+use Rattle.std.specs.Prelude.{◌≡◌, ℕ, Some, None, Option}
 use Rattle.exchange.specs.Exchanges.{exchange_seen}
 use Rattle.exchange.specs.Links.{link_seen}
+use Rattle.exchange.specs.Views.{says_seen}
 use Rattle.exchange.specs.declared.exchange.Exchange as coded
 use Rattle.exchange.specs.declared.link.Link as held
 use Rattle.frames.specs.Faults.{cause_seen}
 use Rattle.frames.specs.declared.fault.Cause as found
-use Rattle.protocol.specs.Reader.{Reader, at, unwoken, asking, woken, failed, idle, busy, ended, closing, closed, Link, blank_link, Exchange, blank_exchange, tried, no_cause}
+use Rattle.protocol.specs.Reader.{Reader, at, unwoken, asking, woken, failed, idle, busy, ended, closing, closed, Link, blank_link, Exchange, blank_exchange, tried, no_cause, says}
 use Rattle.stages.specs.declared.stage.Unwoken.{Unwoken}
 use Rattle.stages.specs.declared.stage.Asking.{Asking}
 use Rattle.stages.specs.declared.stage.Woken.{Woken}
@@ -15,7 +16,8 @@ use Rattle.stages.specs.declared.stage.Idle.{Idle}
 use Rattle.stages.specs.declared.stage.Ended.{Ended}
 use Rattle.stages.specs.declared.stage.Closing.{Closing}
 use Rattle.stages.specs.declared.stage.Closed.{Closed}
-use Rattle.stages.specs.declared.stage.busy.Busy.{Busy}
+use Rattle.stages.specs.declared.stage.Busy.{Busy}
+use Rattle.stages.specs.declared.view.View.{View}
 
 abbrev pub unwoken_seen : Unwoken → Reader
 unwoken_seen s = at unwoken blank_link blank_exchange
@@ -28,10 +30,10 @@ abbrev pub asking_seen : Asking → Reader
 asking_seen s = at asking blank_link (awaited s.tries s.why)
 
 abbrev pub woken_seen : Woken → Reader
-woken_seen s = at woken (link_seen s.link) blank_exchange
+woken_seen s = at woken (link_seen s.exchange.link) (exchange_seen s.exchange)
 
 abbrev pub failed_seen : Failed → Reader
-failed_seen s = at failed blank_link (awaited s.tries s.why)
+failed_seen s = at failed blank_link (awaited s.asking.tries s.asking.why)
 
 abbrev pub idle_seen : Idle → Reader
 idle_seen s = at idle (link_seen s.exchange.link) (exchange_seen s.exchange)
@@ -62,3 +64,8 @@ closed_seen s =
 abbrev pub link_held : Option held.Link → Link
 link_held (Some l) = link_seen l
 link_held None = blank_link
+
+-- a view shows what a reader holds of the card, and what it says of its command
+pub record Shows (v : View) (r : Reader) : Type 0 where
+  pub link : link_held v.link ≡ r.link
+  pub says : says_seen v.says ≡ says r

@@ -7,8 +7,13 @@ mod requests;
 mod settings;
 mod setup;
 mod stage;
+mod view;
 
 pub use next::{AfterBlock, AfterDeselect, AfterRats};
-pub use outcome::Outcome;
+pub use outcome::{Outcome, number_of};
 pub use settings::Settings;
-pub use stage::{Asking, Busy, Closed, Closing, Ended, Failed, Idle, Unwoken, Woken};
+pub use stage::{
+    Asking, Busy, Close, Closed, Closing, Ended, Failed, Fetch, Idle, Linked, Listen, Stage, Unwoken,
+    Woken,
+};
+pub use view::View;

@@ -4,7 +4,7 @@ use super::stage::{Asking, Busy, Closed, Closing, Ended, Failed, Idle, Woken};
 /// After RATS.
 #[derive(Drop)]
 pub enum AfterRats {
-    /// RATS is out again, or the call was refused
+    /// RATS is out again
     Asking(Asking),
     Woken(Woken),
     Failed(Failed),
@@ -13,7 +13,7 @@ pub enum AfterRats {
 /// After a block of an exchange.
 #[derive(Drop)]
 pub enum AfterBlock {
-    /// the exchange goes on, or the call was refused
+    /// the exchange goes on
     Busy(Busy),
     Idle(Idle),
     Ended(Ended),
@@ -22,7 +22,7 @@ pub enum AfterBlock {
 /// After deselect.
 #[derive(Drop)]
 pub enum AfterDeselect {
-    /// deselect is out again, or the call was refused
+    /// deselect is out again
     Closing(Closing),
     Closed(Closed),
 }

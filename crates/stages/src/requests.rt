@@ -10,7 +10,7 @@ ghost use Rattle.frames.specs.Views.{cid_seen, agreement};
 ghost use Rattle.frames.specs.Writing.{cid_in_range};
 ghost use Rattle.activation.specs.Rats.{rats_of};
 ghost use Rattle.protocol.specs.Reader.{ats_in, is_deselect, read_as};
-ghost use Rattle.stages.specs.Requests.{Writes, answer_seen};
+ghost use Rattle.stages.specs.Requests.{Writes, ats_seen};
 ghost use Rattle.stages.specs.Setups.{setup_seen};
 
 use super::setup::Setup;
@@ -46,12 +46,10 @@ pub fn write_deselect(card: Option<CardNumber>, out: &mut [u8]) -> Result<Sent, 
 
 /// What was heard as an ATS; nothing heard is silence.
 pub fn hear_answer<'a>(bytes: Option<&'a [u8]>, setup: Setup) -> Result<Ats<'a>, SessionFault>
-    ensures read { answer_seen result ≡ ats_in (size_of (setup_seen setup).fsdi) (event_seen bytes.entry) }
+    ensures read { ats_seen result ≡ ats_in (size_of (setup_seen setup).fsdi) (event_seen bytes.entry) }
     ensures valid { IfOk result (λ a. ValidAts (said_by a)) }
 {
-    let Some(frame) = bytes else {
-        return Err(SessionFault::Frame(FrameFault::Silence));
-    };
+    let frame = bytes.ok_or(FrameFault::Silence)?;
     Ok(hear_ats(frame, setup.fsd())?)
 }
 
@@ -59,8 +57,5 @@ pub fn hear_answer<'a>(bytes: Option<&'a [u8]>, setup: Setup) -> Result<Ats<'a>,
 pub fn is_deselect(bytes: Option<&[u8]>, fsd: usize, agreed: Agreed) -> bool
     ensures { result ≡ is_deselect (read_as fsd (agreement agreed) (event_seen bytes.entry)) }
 {
-    match listen(bytes, fsd, agreed) {
-        Ok(Block::Deselect { .. }) => true,
-        _ => false,
-    }
+    matches!(listen(bytes, fsd, agreed), Ok(Block::Deselect { .. }))
 }

@@ -13,7 +13,7 @@ const MOST_REPEATS: u8 = 15;
 
 /// The code of the reader's frame size, the number that it gives the card, how often it repeats a fresh frame, and how many
 /// waits of an exchange it grants.
-#[derive(Clone, Copy)]
+#[derive(Clone, Copy, Debug, PartialEq, Eq)]
 pub struct Settings {
     pub fsdi: u8,
     pub cid: u8,

@@ -1,15 +1,21 @@
 //! The stages of a session. Each is a type of its own, is never copied, and has just the calls that belong to it.
+ghost use Rattle.std.specs.Prelude.{◌≡◌, true};
+ghost use Rattle.exchange.specs.Exchanges.{exchange_seen};
+ghost use Rattle.exchange.specs.Moves.{is_running};
+
 use super::setup::Setup;
-use exchange::{Exchange, Link};
+use exchange::Exchange;
 use frames::Cause;
 
-mod busy;
-mod fetching;
-mod links;
+mod calls;
+mod deselecting;
+mod exchanging;
 mod shutting;
+mod telling;
 mod waking;
 
-pub use busy::Busy;
+pub use calls::{Fetch, Linked, Listen, Stage};
+pub use shutting::Close;
 
 /// Nothing was asked yet.
 #[derive(Drop)]
@@ -25,19 +31,17 @@ pub struct Asking {
     why: Cause,
 }
 
-/// The card has answered with an ATS.
+/// The card has answered with an ATS; no command was given yet.
 #[derive(Drop)]
 pub struct Woken {
     setup: Setup,
-    link: Link,
+    exchange: Exchange,
 }
 
 /// The card has not, as often as RATS was repeated; only close is left.
 #[derive(Drop)]
 pub struct Failed {
-    setup: Setup,
-    tries: u8,
-    why: Cause,
+    asking: Asking,
 }
 
 /// The session is active, and no exchange is open.
@@ -45,6 +49,14 @@ pub struct Failed {
 pub struct Idle {
     setup: Setup,
     exchange: Exchange,
+}
+
+/// An exchange is open.
+#[derive(Drop)]
+pub struct Busy {
+    setup: Setup,
+    exchange: Exchange,
+    ghost runs: { is_running (exchange_seen exchange).progress ≡ true },
 }
 
 /// An exchange has ended before it was done; only close is left.

@@ -6,13 +6,13 @@ ghost use Rattle.activation.specs.Views.{said_by};
 ghost use Rattle.exchange.specs.Listening.{event_seen};
 ghost use Rattle.frames.specs.Faults.{cause_seen};
 ghost use Rattle.frames.specs.Sizes.{greatest_frame};
-ghost use Rattle.protocol.specs.Reader.{ask as asks, start as starts, heard as hears, silent as hears_nothing, on_ats};
+ghost use Rattle.protocol.specs.Reader.{ask as asks, start as starts, on_ats};
 ghost use Rattle.stages.specs.Calls.{Does, Turns, Hears, Makes};
-ghost use Rattle.stages.specs.Results.{asked, heard_rats, started, made, making};
-ghost use Rattle.stages.specs.Setups.{wished, setup_seen, all_least};
+ghost use Rattle.stages.specs.Results.{asked, started, made, heard_by, at_rats};
+ghost use Rattle.stages.specs.Setups.{wished, setup_seen, setup_for, all_least};
 ghost use Rattle.stages.specs.Stages.{unwoken_seen, asking_seen, woken_seen};
 
-use super::{Asking, Failed, Idle, Unwoken, Woken};
+use super::{Asking, Failed, Idle, Listen, Unwoken, Woken};
 use crate::next::AfterRats;
 use crate::outcome::Outcome;
 use crate::requests::{hear_answer, write_request};
@@ -35,12 +35,10 @@ const NO_REPORT: Report = Report {
 impl Unwoken {
     /// A session with these settings, before anything is asked.
     pub fn new(settings: Settings) -> Result<Unwoken, Refusal>
-        ensures { made result ≡ making (wished settings) }
+        ensures { made result ≡ setup_for (wished settings) }
     {
-        match Setup::of(settings) {
-            Some(setup) => Ok(Unwoken { setup }),
-            None => Err(Refusal::Setting),
-        }
+        let setup = Setup::try_from(settings)?;
+        Ok(Unwoken { setup })
     }
 
     /// A session with the least settings, in the place of one that was taken out.
@@ -70,80 +68,67 @@ impl Unwoken {
     }
 }
 
-impl Asking {
-    /// A frame was heard.
-    pub fn heard<'a>(self, frame: &'a [u8], out: &mut [u8]) -> (AfterRats, Outcome<'a>)
-        ensures { Does (setup_seen self.setup) (asking_seen self) (hears frame.now) (heard_rats result out.new) out.old out.new }
-    {
-        self.listen(Some(frame), out)
-    }
+impl Listen for Asking {
+    type Next = AfterRats;
 
-    /// Nothing was heard for as long as the reader had to listen.
-    pub fn silent<'a>(self, out: &mut [u8]) -> (AfterRats, Outcome<'a>)
-        ensures { Does (setup_seen self.setup) (asking_seen self) hears_nothing (heard_rats result out.new) out.old out.new }
-    {
-        self.listen(None, out)
-    }
+    ghost next = { at_rats };
 
-    fn listen<'a>(self, bytes: Option<&'a [u8]>, out: &mut [u8]) -> (AfterRats, Outcome<'a>)
-        ensures { Hears (setup_seen self.setup) (asking_seen self) (event_seen bytes.entry) (heard_rats result out.new) out.old out.new }
-    {
+    fn listen<'a>(
+        self,
+        bytes: Option<&'a [u8]>,
+        out: &mut [u8],
+    ) -> Result<(AfterRats, Outcome<Ats<'a>>), (Asking, Refusal)> {
         if out.len() < GREATEST_FRAME {
-            return (AfterRats::Asking(self), Outcome::Refused(Refusal::Buffer));
+            return Err((self, Refusal::Buffer));
         }
         match hear_answer(bytes, self.setup) {
             Ok(ats) => self.wake(ats),
             Err(fault) => self.again(fault.cause(), out),
         }
     }
+}
 
+impl Asking {
     /// The card is awake; an ATS that was read has no reserved value, so that it gives a link.
-    fn wake<'a>(self, ats: Ats<'a>) -> (AfterRats, Outcome<'a>)
+    fn wake<'a>(
+        self,
+        ats: Ats<'a>,
+    ) -> Result<(AfterRats, Outcome<Ats<'a>>), (Asking, Refusal)>
         requires { ValidAts (said_by ats) }
-        ensures { (buffer : List ℕ) → Makes (setup_seen self.setup) (on_ats (setup_seen self.setup) (asking_seen self).link (asking_seen self).exchange (good (said_by ats.entry))) (heard_rats result buffer) buffer buffer }
+        ensures { (buffer : List ℕ) → Makes (setup_seen self.setup) (on_ats (setup_seen self.setup) (asking_seen self).link (asking_seen self).exchange (good (said_by ats.entry))) (heard_by at_rats (λ s. setup_seen s.setup) asking_seen result buffer) buffer buffer }
     {
         let setup = self.setup;
-        match Link::of(ats, setup.cid()) {
-            Some(link) => (AfterRats::Woken(Woken { setup, link }), Outcome::Wakes(ats)),
-            None => (AfterRats::Asking(self), Outcome::Refused(Refusal::Setting)),
-        }
+        let Some(link) = Link::of(ats, setup.cid()) else {
+            return Err((self, Refusal::Setting));
+        };
+        let exchange = Exchange::new(link);
+        Ok((AfterRats::Woken(Woken { setup, exchange }), Outcome::Wakes(ats)))
     }
 
     /// RATS again, while there are repeats left.
-    fn again<'a>(self, why: Cause, out: &mut [u8]) -> (AfterRats, Outcome<'a>)
+    fn again<'a>(
+        self,
+        why: Cause,
+        out: &mut [u8],
+    ) -> Result<(AfterRats, Outcome<Ats<'a>>), (Asking, Refusal)>
         requires { greatest_frame ≤ length out.old }
-        ensures { Makes (setup_seen self.setup) (on_ats (setup_seen self.setup) (asking_seen self).link (asking_seen self).exchange (bad (cause_seen why))) (heard_rats result out.new) out.old out.new }
+        ensures { Makes (setup_seen self.setup) (on_ats (setup_seen self.setup) (asking_seen self).link (asking_seen self).exchange (bad (cause_seen why))) (heard_by at_rats (λ s. setup_seen s.setup) asking_seen result out.new) out.old out.new }
     {
         let setup = self.setup;
         if self.tries >= setup.repeats() {
-            return (
-                AfterRats::Failed(self.fail()),
-                Outcome::Over {
-                    ending: Ending::Spent(why),
-                    report: NO_REPORT,
-                },
-            );
+            let outcome = Outcome::Over {
+                ending: Ending::Spent(why),
+                report: NO_REPORT,
+            };
+            return Ok((AfterRats::Failed(Failed { asking: self }), outcome));
         }
         match write_request(setup, out) {
             Ok(sent) => {
                 let tries = self.tries + 1;
-                (
-                    AfterRats::Asking(Asking { setup, tries, why }),
-                    Outcome::Wrote(sent),
-                )
+                let stage = Asking { setup, tries, why };
+                Ok((AfterRats::Asking(stage), Outcome::Wrote(sent)))
             }
-            Err(refusal) => (AfterRats::Asking(self), Outcome::Refused(refusal)),
-        }
-    }
-
-    /// The repeats are spent.
-    fn fail(self) -> Failed
-        ensures { result ≡ record { setup = self.setup; tries = self.tries; why = self.why } }
-    {
-        Failed {
-            setup: self.setup,
-            tries: self.tries,
-            why: self.why,
+            Err(refusal) => Err((self, refusal)),
         }
     }
 }
@@ -155,7 +140,7 @@ impl Woken {
     {
         Idle {
             setup: self.setup,
-            exchange: Exchange::new(self.link),
+            exchange: self.exchange,
         }
     }
 }

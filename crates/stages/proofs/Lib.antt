@@ -1,4 +1,0 @@
-pub mod Fetching
-pub mod Guards
-pub mod Turning
-pub mod Writing

@@ -1,0 +1,226 @@
+//! What each stage tells, and the answer that it gives.
+use super::calls::{Fetch, Linked, Stage};
+use super::{Asking, Busy, Closed, Closing, Ended, Failed, Idle, Unwoken, Woken};
+use crate::view::View;
+use exchange::{Exchange, Link};
+
+impl Stage for Unwoken {
+    ghost use Rattle.stages.specs.Setups.{setup_seen};
+    ghost use Rattle.stages.specs.Stages.{unwoken_seen};
+
+    ghost settings = { λ s. setup_seen s.setup };
+
+    ghost reader = { unwoken_seen };
+
+    fn view(&self) -> View {
+        View::blank()
+    }
+}
+
+impl Stage for Asking {
+    ghost use Rattle.stages.specs.Setups.{setup_seen};
+    ghost use Rattle.stages.specs.Stages.{asking_seen};
+
+    ghost settings = { λ s. setup_seen s.setup };
+
+    ghost reader = { asking_seen };
+
+    fn view(&self) -> View {
+        View::blank()
+    }
+}
+
+impl Stage for Woken {
+    ghost use Rattle.stages.specs.Setups.{setup_seen};
+    ghost use Rattle.stages.specs.Stages.{woken_seen};
+
+    ghost settings = { λ s. setup_seen s.setup };
+
+    ghost reader = { woken_seen };
+
+    fn view(&self) -> View {
+        View::of(&self.exchange)
+    }
+}
+
+impl Stage for Failed {
+    ghost use Rattle.stages.specs.Setups.{setup_seen};
+    ghost use Rattle.stages.specs.Stages.{failed_seen};
+
+    ghost settings = { λ s. setup_seen s.asking.setup };
+
+    ghost reader = { failed_seen };
+
+    fn view(&self) -> View {
+        View::blank()
+    }
+}
+
+impl Stage for Idle {
+    ghost use Rattle.stages.specs.Setups.{setup_seen};
+    ghost use Rattle.stages.specs.Stages.{idle_seen};
+
+    ghost settings = { λ s. setup_seen s.setup };
+
+    ghost reader = { idle_seen };
+
+    fn view(&self) -> View {
+        View::of(&self.exchange)
+    }
+}
+
+impl Stage for Busy {
+    ghost use Rattle.stages.specs.Setups.{setup_seen};
+    ghost use Rattle.stages.specs.Stages.{busy_seen};
+
+    ghost settings = { λ s. setup_seen s.setup };
+
+    ghost reader = { busy_seen };
+
+    fn view(&self) -> View {
+        View::of(&self.exchange)
+    }
+}
+
+impl Stage for Ended {
+    ghost use Rattle.stages.specs.Setups.{setup_seen};
+    ghost use Rattle.stages.specs.Stages.{ended_seen};
+
+    ghost settings = { λ s. setup_seen s.setup };
+
+    ghost reader = { ended_seen };
+
+    fn view(&self) -> View {
+        View::of(&self.exchange)
+    }
+}
+
+impl Stage for Closing {
+    ghost use Rattle.stages.specs.Setups.{setup_seen};
+    ghost use Rattle.stages.specs.Stages.{closing_seen};
+
+    ghost settings = { λ s. setup_seen s.setup };
+
+    ghost reader = { closing_seen };
+
+    fn view(&self) -> View {
+        self.latest.as_ref().map_or(View::blank(), View::of)
+    }
+}
+
+impl Stage for Closed {
+    ghost use Rattle.stages.specs.Setups.{setup_seen};
+    ghost use Rattle.stages.specs.Stages.{closed_seen};
+
+    ghost settings = { λ s. setup_seen s.closing.setup };
+
+    ghost reader = { closed_seen };
+
+    fn view(&self) -> View {
+        self.closing.view()
+    }
+}
+
+impl Fetch for Unwoken {
+    ghost use Rattle.std.specs.Prelude.{refl};
+
+    ghost open = { λ _. refl };
+
+    fn answer(&self) -> &[u8] {
+        &[]
+    }
+}
+
+impl Fetch for Asking {
+    ghost use Rattle.std.specs.Prelude.{refl};
+
+    ghost open = { λ _. refl };
+
+    fn answer(&self) -> &[u8] {
+        &[]
+    }
+}
+
+impl Fetch for Woken {
+    ghost use Rattle.std.specs.Prelude.{refl};
+
+    ghost open = { λ _. refl };
+
+    fn answer(&self) -> &[u8] {
+        self.exchange.answer()
+    }
+}
+
+impl Fetch for Failed {
+    ghost use Rattle.std.specs.Prelude.{refl};
+
+    ghost open = { λ _. refl };
+
+    fn answer(&self) -> &[u8] {
+        &[]
+    }
+}
+
+impl Fetch for Idle {
+    ghost use Rattle.std.specs.Prelude.{refl};
+
+    ghost open = { λ _. refl };
+
+    fn answer(&self) -> &[u8] {
+        self.exchange.answer()
+    }
+}
+
+impl Fetch for Busy {
+    ghost use Rattle.std.specs.Prelude.{refl};
+
+    ghost open = { λ _. refl };
+
+    fn answer(&self) -> &[u8] {
+        self.exchange.answer()
+    }
+}
+
+impl Fetch for Ended {
+    ghost use Rattle.std.specs.Prelude.{refl};
+
+    ghost open = { λ _. refl };
+
+    fn answer(&self) -> &[u8] {
+        self.exchange.answer()
+    }
+}
+
+impl Fetch for Closing {
+    ghost use Rattle.std.specs.Prelude.{refl};
+
+    ghost open = { λ _. refl };
+
+    fn answer(&self) -> &[u8] {
+        self.latest.as_ref().map_or(&[], Exchange::answer)
+    }
+}
+
+impl Linked for Woken {
+    fn link(&self) -> Link {
+        self.exchange.link()
+    }
+}
+
+impl Linked for Idle {
+    fn link(&self) -> Link {
+        self.exchange.link()
+    }
+}
+
+impl Linked for Busy {
+    fn link(&self) -> Link {
+        self.exchange.link()
+    }
+}
+
+impl Linked for Ended {
+    fn link(&self) -> Link {
+        self.exchange.link()
+    }
+}
