@@ -3,9 +3,6 @@ use Rattle.std.proofs.Common.{◌≡◌, ℕ, Bool, true, false, List, refl}
 use Rattle.frames.specs.Blocks.{Block}
 use Rattle.protocol.specs.Reader.{Link, Exchange, writes, on_information}
 
-pub writes_as : {l l' : Link} {x x' : Exchange} {b b' : Block} → l ≡ l' → x ≡ x' → b ≡ b' → writes l x b ≡ writes l' x' b'
-writes_as p q r = λ i. writes (p i) (q i) (r i)
-
 -- no limit bears on what an I-block does
 pub no_limit : (repeats waits : ℕ) (l : Link) (x : Exchange) (awaited chaining : Bool) (info : List ℕ) → on_information 0 0 l x awaited chaining info ≡ on_information repeats waits l x awaited chaining info
 no_limit repeats waits l x true true info = refl

@@ -41,7 +41,7 @@ pub struct Exchange {
     came: bool,
     ghost sends: { (progress_seen progress ≡ running → from < length (held command)) },
     ghost place: { from ≤ 261 },
-    ghost fresh: { totals.fresh ≤ 1 + from + answer.len },
+    ghost fresh: { totals.fresh ≤ 1 + from + length (held answer) },
     ghost repeats: { totals.repeats ≤ 255 * totals.fresh + since },
     ghost waits: { totals.waits ≤ 255 },
 }
