@@ -1,7 +1,7 @@
 //! What is done with a pair.
 
 /// A frame's way to the card.
-#[derive(Clone, Copy)]
+#[derive(Clone, Copy, Debug, PartialEq, Eq)]
 pub enum Fate {
     /// it arrives whole
     Whole,
@@ -11,7 +11,7 @@ pub enum Fate {
 }
 
 /// The reader's call; what it hears is what the field lets through.
-#[derive(Clone, Copy)]
+#[derive(Clone, Copy, Debug, PartialEq, Eq)]
 pub enum Call<'a> {
     Ask,
     Start,
@@ -29,8 +29,11 @@ pub enum Call<'a> {
 }
 
 /// A call, and the fate of the frame that it writes.
-#[derive(Clone, Copy)]
+#[derive(Clone, Copy, Debug, PartialEq, Eq)]
 pub struct Step<'a> {
     pub call: Call<'a>,
     pub fate: Fate,
 }
+
+/// Three bytes that fail the check: what a spoilt frame arrives as.
+pub static NOISE: [u8; 3] = [0, 0, 0];

@@ -7,26 +7,23 @@ ghost use Rattle.pair.specs.Deeds.{hearing, hearing_noise};
 ghost use Rattle.pair.specs.Readings.{Reads};
 
 use super::air::Air;
-use super::outcome::Outcome;
-use frames::unseal;
+use super::outcome::{Outcome, kept};
+use frames::{Refusal, unseal};
 use reader::Session;
 
 /// The card's reply, or silence where there is none.
-pub fn hear_reply(reader: &mut Session, air: &Air, out: &mut [u8]) -> Outcome
+pub fn hear_reply(reader: &mut Session, air: &Air, out: &mut [u8]) -> Result<Outcome, Refusal>
     ensures { Reads (settings_of reader.old) (do_call (settings_of reader.old) (session_seen reader.old) (hearing (reply_seen air.now) (length out.old))) reader.new result out.old out.new }
 {
-    match air.heard() {
-        Some(frame) => Outcome::of(reader.heard(frame, out)),
-        None => Outcome::of(reader.silent(out)),
-    }
+    kept(reader.listen(air.heard(), out))
 }
 
 /// These bytes, if they fail the check, and else silence.
-pub fn hear_noise(reader: &mut Session, bytes: &[u8], out: &mut [u8]) -> Outcome
+pub fn hear_noise(reader: &mut Session, bytes: &[u8], out: &mut [u8]) -> Result<Outcome, Refusal>
     ensures { Reads (settings_of reader.old) (do_call (settings_of reader.old) (session_seen reader.old) (hearing_noise bytes.now (length out.old))) reader.new result out.old out.new }
 {
     match unseal(bytes, bytes.len()) {
-        Ok(_) => Outcome::of(reader.silent(out)),
-        Err(_) => Outcome::of(reader.heard(bytes, out)),
+        Ok(_) => kept(reader.silent(out)),
+        Err(_) => kept(reader.heard(bytes, out)),
     }
 }

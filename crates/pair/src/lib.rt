@@ -10,7 +10,7 @@ mod outcome;
 mod pair;
 mod recorded;
 
-pub use call::{Call, Fate, Step};
+pub use call::{Call, Fate, NOISE, Step};
 pub use laws::{acts_are_runs, starts_a_run};
 pub use outcome::{Answer, Outcome, Woken};
 pub use pair::Pair;

@@ -8,26 +8,27 @@ ghost use Rattle.pair.specs.Readings.{Reads};
 use super::Pair;
 use crate::call::{Call, Fate};
 use crate::hearing::{hear_noise, hear_reply};
-use crate::outcome::{Answer, Outcome};
+use crate::outcome::{Answer, Outcome, kept};
 use applications::Application;
+use frames::Refusal;
 
 impl<A: Application> Pair<A> {
     /// The reader's part of a call.
-    fn read(&mut self, call: Call<'_>, out: &mut [u8]) -> Outcome
+    fn read(&mut self, call: Call<'_>, out: &mut [u8]) -> Result<Outcome, Refusal>
         ensures reads { Reads (setup_seen A.Application.model self.old).reader (move_of (setup_seen A.Application.model self.old) (world_seen self.old) (call_for (world_seen self.old) (length out.old) (deed_seen call.entry))) self.new.reader result out.old out.new }
         ensures card { self.new.card ≡ self.old.card }
         ensures air { self.new.air ≡ self.old.air }
     {
         match call {
-            Call::Ask => Outcome::of(self.reader.ask(out)),
-            Call::Start => Outcome::of(self.reader.start()),
-            Call::Begin(command) => Outcome::of(self.reader.begin(command, out)),
+            Call::Ask => kept(self.reader.ask(out)),
+            Call::Start => kept(self.reader.start()),
+            Call::Begin(command) => kept(self.reader.begin(command, out)),
             Call::Hear => hear_reply(&mut self.reader, &self.air, out),
-            Call::Mute => Outcome::of(self.reader.silent(out)),
+            Call::Mute => kept(self.reader.silent(out)),
             Call::Noise(bytes) => hear_noise(&mut self.reader, bytes, out),
-            Call::GiveUp => Outcome::of(self.reader.give_up()),
-            Call::Close => Outcome::of(self.reader.close(out)),
-            Call::Fetch => Outcome::of(self.reader.fetch(out)),
+            Call::GiveUp => kept(self.reader.give_up()),
+            Call::Close => kept(self.reader.close(out)),
+            Call::Fetch => kept(self.reader.fetch(out)),
         }
     }
 

@@ -6,13 +6,11 @@ ghost use Rattle.pair.specs.Answers.{answer_seen, size_in};
 ghost use Rattle.pair.specs.Pairs.{fate_seen, world_seen, setup_seen, Crossed};
 
 use super::Pair;
-use crate::call::Fate;
+use crate::call::{Fate, NOISE};
 use crate::delivery::deliver;
 use crate::outcome::Outcome;
 use applications::Application;
-
-/// Three bytes that fail the check: what a spoilt frame arrives as.
-static NOISE: [u8; 3] = [0, 0, 0];
+use frames::Refusal;
 
 impl<A: Application> Pair<A> {
     /// A frame arrives spoilt.
@@ -55,15 +53,19 @@ impl<A: Application> Pair<A> {
 
     /// What an outcome does in the field: a frame is on its way; a refused call and fetch move nothing; after any other call
     /// there is no more reply to hear.
-    pub(crate) fn cross(&mut self, outcome: &Outcome, fate: Fate, out: &[u8]) -> bool
+    pub(crate) fn cross(
+        &mut self,
+        outcome: &Result<Outcome, Refusal>,
+        fate: Fate,
+        out: &[u8],
+    ) -> bool
         requires { size_in outcome.now ≤ length out.now }
         ensures { Crossed A.Application.model (crosses (setup_seen A.Application.model self.old) (world_seen self.old) (world_seen self.old).reader (answer_seen outcome.now out.now) (fate_seen fate)) self.old self.new result }
     {
         match outcome {
-            Outcome::Wrote(sent) => self.carry(sent.len, fate, out),
-            Outcome::Refused(_) => false,
-            Outcome::Fetched(_) => false,
-            _ => self.lose(),
+            Ok(Outcome::Wrote(sent)) => self.carry(sent.len, fate, out),
+            Err(_) | Ok(Outcome::Fetched(_)) => false,
+            Ok(_) => self.lose(),
         }
     }
 }

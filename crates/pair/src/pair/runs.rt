@@ -25,10 +25,10 @@ impl<A: Application> Pair<A> {
     }
 
     /// The same with records of its own.
-    pub fn run(&mut self, heap: Global, steps: &[Step<'_>]) -> Result<Vec<Record>, AllocError>
+    pub fn run(&mut self, alloc: Global, steps: &[Step<'_>]) -> Result<Vec<Record>, AllocError>
         ensures { Runs A.Application.model steps.now self.old self.new result }
     {
-        let mut records = Vec::new(heap);
+        let mut records = Vec::new(alloc);
         self.run_into(steps, &mut records)?;
         Ok(records)
     }

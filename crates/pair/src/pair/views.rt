@@ -28,14 +28,11 @@ impl<A: Application> Pair<A> {
             Ok(reader) => reader,
             Err(why) => return Err((application, why)),
         };
-        match Card::new(card, application) {
-            Ok(card) => Ok(Pair {
-                reader,
-                card,
-                air: Air::new(),
-            }),
-            Err(refused) => Err(refused),
-        }
+        Ok(Pair {
+            reader,
+            card: Card::new(card, application)?,
+            air: Air::new(),
+        })
     }
 
     /// What the reader says of its command.
