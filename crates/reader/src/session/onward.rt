@@ -107,16 +107,7 @@ impl Session {
         requires goes_on { (n : S.Next) (x : Session) → ⟦<Session as From<S::Next>>⟧.from_gives n x → (p : Reply) → S.next n p ≡ at_session x p }
         ensures { Hears (S.settings stage) (S.reader stage) (event_seen bytes.entry) (after_call self.new result out.new) out.old out.new }
     {
-        match stage.listen(bytes, out) {
-            Ok((next, outcome)) => {
-                *self = next.into();
-                Ok(outcome)
-            }
-            Err((stage, why)) => {
-                *self = same(stage);
-                Err(why)
-            }
-        }
+        self.settle(stage.listen(bytes, out), Session::from, same)
     }
 
     /// The session is at a stage that takes close.
