@@ -5,14 +5,12 @@ ghost use Rattle.protocol.specs.Reader.{ask as asks, start as starts, begin as b
 ghost use Rattle.stages.specs.Calls.{Does, Hears, Turns};
 ghost use Rattle.reader.specs.Sessions.{session_seen, settings_of, after_call};
 
-use super::Session;
-use activation::Ats;
-use frames::Refusal;
+use super::{Answer, Session};
 use stages::{Close, Listen, Outcome};
 
 impl Session {
     /// Writes RATS.
-    pub fn ask<'a>(&mut self, out: &mut [u8]) -> Result<Outcome<Ats<'a>>, Refusal>
+    pub fn ask<'a>(&mut self, out: &mut [u8]) -> Answer<'a>
         ensures { Does (settings_of self.old) (session_seen self.old) asks (after_call self.new result out.new) out.old out.new }
     {
         match self.take() {
@@ -25,7 +23,7 @@ impl Session {
     }
 
     /// Makes a woken session active.
-    pub fn start<'a>(&mut self) -> Result<Outcome<Ats<'a>>, Refusal>
+    pub fn start<'a>(&mut self) -> Answer<'a>
         ensures { Turns (settings_of self.old) (session_seen self.old) starts (after_call self.new result []) }
     {
         match self.take() {
@@ -38,11 +36,7 @@ impl Session {
     }
 
     /// Takes a command, and writes its first block.
-    pub fn begin<'a>(
-        &mut self,
-        command: &[u8],
-        out: &mut [u8],
-    ) -> Result<Outcome<Ats<'a>>, Refusal>
+    pub fn begin<'a>(&mut self, command: &[u8], out: &mut [u8]) -> Answer<'a>
         ensures { Does (settings_of self.old) (session_seen self.old) (begins command.now) (after_call self.new result out.new) out.old out.new }
     {
         match self.take() {
@@ -55,11 +49,7 @@ impl Session {
     }
 
     /// Bytes were heard, or nothing.
-    pub fn listen<'a>(
-        &mut self,
-        bytes: Option<&'a [u8]>,
-        out: &mut [u8],
-    ) -> Result<Outcome<Ats<'a>>, Refusal>
+    pub fn listen<'a>(&mut self, bytes: Option<&'a [u8]>, out: &mut [u8]) -> Answer<'a>
         ensures { Hears (settings_of self.old) (session_seen self.old) (event_seen bytes.entry) (after_call self.new result out.new) out.old out.new }
     {
         match self.take() {
@@ -71,25 +61,21 @@ impl Session {
     }
 
     /// A frame was heard.
-    pub fn heard<'a>(
-        &mut self,
-        frame: &'a [u8],
-        out: &mut [u8],
-    ) -> Result<Outcome<Ats<'a>>, Refusal>
+    pub fn heard<'a>(&mut self, frame: &'a [u8], out: &mut [u8]) -> Answer<'a>
         ensures { Does (settings_of self.old) (session_seen self.old) (hears frame.now) (after_call self.new result out.new) out.old out.new }
     {
         self.listen(Some(frame), out)
     }
 
     /// Nothing was heard for as long as the reader had to listen.
-    pub fn silent<'a>(&mut self, out: &mut [u8]) -> Result<Outcome<Ats<'a>>, Refusal>
+    pub fn silent<'a>(&mut self, out: &mut [u8]) -> Answer<'a>
         ensures { Does (settings_of self.old) (session_seen self.old) hears_nothing (after_call self.new result out.new) out.old out.new }
     {
         self.listen(None, out)
     }
 
     /// The host gives an exchange up.
-    pub fn give_up<'a>(&mut self) -> Result<Outcome<Ats<'a>>, Refusal>
+    pub fn give_up<'a>(&mut self) -> Answer<'a>
         ensures { Turns (settings_of self.old) (session_seen self.old) gives_up (after_call self.new result []) }
     {
         match self.take() {
@@ -103,7 +89,7 @@ impl Session {
     }
 
     /// Writes deselect.
-    pub fn close<'a>(&mut self, out: &mut [u8]) -> Result<Outcome<Ats<'a>>, Refusal>
+    pub fn close<'a>(&mut self, out: &mut [u8]) -> Answer<'a>
         ensures { Does (settings_of self.old) (session_seen self.old) closes (after_call self.new result out.new) out.old out.new }
     {
         match self.take() {

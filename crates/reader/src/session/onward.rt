@@ -2,8 +2,7 @@
 ghost use Rattle.std.specs.Prelude.{◌≡◌, IfOk, IfErr, MatchResult};
 ghost use Rattle.frames.specs.declared.refusal.Refusal.TheVariants.{Stage};
 
-use super::Session;
-use activation::Ats;
+use super::{Answer, Session};
 use frames::Refusal;
 use stages::{AfterBlock, AfterDeselect, AfterRats, Close, Listen, Outcome, Unwoken};
 use std::mem;
@@ -99,7 +98,7 @@ impl Session {
         same: G,
         bytes: Option<&'a [u8]>,
         out: &mut [u8],
-    ) -> Result<Outcome<Ats<'a>>, Refusal>
+    ) -> Answer<'a>
     where
         Session: From<S::Next>,
         requires callable { (s : S) → G.pre same s }
@@ -116,7 +115,7 @@ impl Session {
         stage: S,
         same: G,
         out: &mut [u8],
-    ) -> Result<Outcome<Ats<'a>>, Refusal>
+    ) -> Answer<'a>
         requires callable { (s : S) → G.pre same s }
         requires stays { (s : S) (x : Session) → G.post same s x → (settings_of x ≡ S.settings s) × (session_seen x ≡ S.reader s) }
         ensures { Does (S.settings stage) (S.reader stage) closes (after_call self.new result out.new) out.old out.new }

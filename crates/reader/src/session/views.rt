@@ -7,8 +7,7 @@ ghost use Rattle.stages.specs.Setups.{wished};
 ghost use Rattle.stages.specs.Stages.{link_held};
 ghost use Rattle.reader.specs.Sessions.{session_seen, settings_of, after_call, new_seen, new_for};
 
-use super::Session;
-use activation::Ats;
+use super::{Answer, Session};
 use exchange::{Link, Says};
 use frames::Refusal;
 use stages::{Fetch, Outcome, Settings, Stage, Unwoken, View};
@@ -42,7 +41,7 @@ impl Session {
     }
 
     /// Copies the answer gathered.
-    pub fn fetch<'a>(&self, out: &mut [u8]) -> Result<Outcome<Ats<'a>>, Refusal>
+    pub fn fetch<'a>(&self, out: &mut [u8]) -> Answer<'a>
         ensures { Does (settings_of self.now) (session_seen self.now) fetches (after_call self.now result out.new) out.old out.new }
     {
         let len = match self {
