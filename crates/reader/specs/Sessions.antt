@@ -1,11 +1,13 @@
 -- What a session at any stage stands for.
 use Rattle.std.specs.Prelude.{ℕ, cond, List, Ok, Err, Result}
+use Rattle.activation.specs.Views.{said_by}
+use Rattle.activation.specs.declared.answer.Ats as heard
 use Rattle.frames.specs.declared.refusal.Refusal.{Refusal}
 use Rattle.frames.specs.declared.refusal.Refusal.TheVariants.{Setting}
 use Rattle.protocol.specs.Reader.{Reader, new_reader}
 use Rattle.protocol.specs.Settings.{ReaderSettings, reader_in_range}
-use Rattle.stages.specs.Calls.{Reply, Told}
-use Rattle.stages.specs.Outcomes.{reply_seen}
+use Rattle.stages.specs.Calls.{Reply, Told, told}
+use Rattle.stages.specs.Outcomes.{answer_seen}
 use Rattle.stages.specs.Setups.{setup_seen}
 use Rattle.stages.specs.Stages.{unwoken_seen, asking_seen, woken_seen, failed_seen, idle_seen, busy_seen, ended_seen, closing_seen, closed_seen}
 use Rattle.stages.specs.declared.outcome.Outcome as coded
@@ -27,7 +29,7 @@ abbrev pub settings_of : Session → ReaderSettings
 settings_of (Unwoken s) = setup_seen s.setup
 settings_of (Asking s) = setup_seen s.setup
 settings_of (Woken s) = setup_seen s.setup
-settings_of (Failed s) = setup_seen s.setup
+settings_of (Failed s) = setup_seen s.asking.setup
 settings_of (Idle s) = setup_seen s.setup
 settings_of (Busy s) = setup_seen s.setup
 settings_of (Ended s) = setup_seen s.setup
@@ -36,12 +38,20 @@ settings_of (Closed s) = setup_seen s.closing.setup
 
 -- a session that has answered
 abbrev pub at_session : Session → Reply → Told
-at_session s p =
-    record { settings = settings_of s; move = record { reader = session_seen s; outcome = p.outcome }; size = p.size }
+at_session s p = told (settings_of s) (session_seen s) p
+
+-- what a call of a session answers
+abbrev pub Answer : Type 0
+Answer = Result (coded.Outcome heard.Ats) Refusal
 
 -- a session after a call, with what it answered and the buffer
-abbrev pub after_call : Session → coded.Outcome → List ℕ → Told
-after_call s o buffer = at_session s (reply_seen o buffer)
+abbrev pub after_call : Session → Answer → List ℕ → Told
+after_call s r buffer = at_session s (answer_seen said_by r buffer)
+
+-- a step, by the session after it and what it answered
+abbrev pub left_by : Session → Answer → Result (Session × coded.Outcome heard.Ats) (Session × Refusal)
+left_by s (Ok o) = Ok (s, o)
+left_by s (Err why) = Err (s, why)
 
 -- a new session: its settings, and the reader before anything was asked
 abbrev pub new_seen : Result Session Refusal → Result (ReaderSettings × Reader) Refusal

@@ -3,8 +3,8 @@
 
 mod session;
 
-pub use session::Session;
+pub use session::{Answer, Session};
 pub use stages::{
-    AfterBlock, AfterDeselect, AfterRats, Asking, Busy, Closed, Closing, Ended, Failed, Idle,
-    Outcome, Settings, Unwoken, Woken,
+    AfterBlock, AfterDeselect, AfterRats, Asking, Busy, Close, Closed, Closing, Ended, Failed,
+    Fetch, Idle, Linked, Listen, Outcome, Settings, Stage, Unwoken, View, Woken, number_of,
 };

@@ -1,14 +1,14 @@
 //! What a test needs to play a session.
 use exchange::{Says, Totals};
 use frames::{GREATEST_FRAME, Refusal, seal};
-use reader::{Outcome, Session, Settings};
+use reader::{Answer, Outcome, Session, Settings, number_of};
 
 /// An ATS with frame size 16 and FWI 4, without card numbers, and with them.
 pub const PLAIN: [u8; 5] = [0x05, 0x70, 0x00, 0x40, 0x00];
 
 pub const NUMBERED: [u8; 5] = [0x05, 0x70, 0x00, 0x40, 0x02];
 
-/// What an outcome tells: its number, the length and the listening time of a frame, and the totals.
+/// What a call tells: its number, the length and the listening time of a frame, and the totals.
 #[derive(Clone, Copy)]
 pub struct Seen {
     pub number: u8,
@@ -23,18 +23,18 @@ const NONE: Totals = Totals {
     waits: 0,
 };
 
-/// Everything that an outcome tells, but what the reader says.
-pub fn told(outcome: Outcome<'_>) -> Seen {
-    let (len, cycles, totals) = match outcome {
-        Outcome::Wrote(sent) => (sent.len, sent.cycles, NONE),
-        Outcome::Answered { len, report } => (len, 0, report.totals),
-        Outcome::Over { report, .. } => (0, 0, report.totals),
-        Outcome::Stopped(report) => (0, 0, report.totals),
-        Outcome::Fetched(len) => (len, 0, NONE),
+/// Everything that a call tells, but what the reader says.
+pub fn told(answer: Answer<'_>) -> Seen {
+    let (len, cycles, totals) = match answer {
+        Ok(Outcome::Wrote(sent)) => (sent.len, sent.cycles, NONE),
+        Ok(Outcome::Answered { len, report }) => (len, 0, report.totals),
+        Ok(Outcome::Over { report, .. }) => (0, 0, report.totals),
+        Ok(Outcome::Stopped(report)) => (0, 0, report.totals),
+        Ok(Outcome::Fetched(len)) => (len, 0, NONE),
         _ => (0, 0, NONE),
     };
     Seen {
-        number: outcome.number(),
+        number: number_of(&answer),
         len,
         cycles,
         totals,

@@ -2,7 +2,7 @@
 use super::playing::*;
 use exchange::Ending;
 use frames::{GREATEST_FRAME, Layer};
-use reader::{Outcome, Session, Settings};
+use reader::{Answer, Outcome, Session, Settings};
 use std::test::Fail;
 
 fn started(settings: Settings, ats: &[u8], out: &mut [u8]) -> Result<Session, Fail> {
@@ -13,17 +13,17 @@ fn started(settings: Settings, ats: &[u8], out: &mut [u8]) -> Result<Session, Fa
 }
 
 /// The repeats are spent, by silence.
-fn spent_by_silence(outcome: Outcome<'_>) -> bool {
-    match outcome {
-        Outcome::Over { ending, .. } => match ending {
-            Ending::Spent(cause) => match cause.layer {
-                Layer::Frame => cause.number == 20 && cause.place == 0,
-                _ => false,
-            },
-            _ => false,
+fn spent_by_silence(answer: Answer<'_>) -> bool {
+    let Ok(
+        Outcome::Over {
+            ending: Ending::Spent(cause),
+            ..
         },
-        _ => false,
-    }
+    ) = answer
+    else {
+        return false;
+    };
+    matches!(cause.layer, Layer::Frame) && cause.number == 20 && cause.place == 0
 }
 
 #[test]

@@ -9,11 +9,11 @@ mod setup;
 mod stage;
 mod view;
 
-pub use next::{AfterBlock, AfterDeselect, AfterRats};
+pub use next::{AfterBlock, AfterDeselect, AfterRats, Heard};
 pub use outcome::{Outcome, number_of};
 pub use settings::Settings;
 pub use stage::{
-    Asking, Busy, Close, Closed, Closing, Ended, Failed, Fetch, Idle, Linked, Listen, Stage, Unwoken,
-    Woken,
+    Asking, Busy, Close, Closed, Closing, Ended, Failed, Fetch, Idle, Linked, Listen, Stage,
+    Unwoken, Woken,
 };
 pub use view::View;

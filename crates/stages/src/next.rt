@@ -1,5 +1,11 @@
 //! The stage that a session is at after it has listened.
+use super::outcome::Outcome;
 use super::stage::{Asking, Busy, Closed, Closing, Ended, Failed, Idle, Woken};
+use activation::Ats;
+use frames::Refusal;
+
+/// What listening comes to: one of the next stages and the outcome, or the same stage and the refusal.
+pub type Heard<'a, N, S> = Result<(N, Outcome<Ats<'a>>), (S, Refusal)>;
 
 /// After RATS.
 #[derive(Drop)]

@@ -11,9 +11,8 @@ ghost use Rattle.stages.specs.Fetches.{Copies, Fetches};
 ghost use Rattle.stages.specs.Results.{heard_by};
 ghost use Rattle.stages.specs.Stages.{Shows};
 
-use crate::outcome::Outcome;
+use crate::next::Heard;
 use crate::view::View;
-use activation::Ats;
 use buffers::{ANSWER_ROOM, copy};
 use exchange::{Link, Says};
 use frames::Refusal;
@@ -81,29 +80,18 @@ pub trait Listen: Stage + Sized {
     ghost next: { Self.Next → Reply → Told };
 
     /// Bytes were heard, or nothing.
-    fn listen<'a>(
-        self,
-        bytes: Option<&'a [u8]>,
-        out: &mut [u8],
-    ) -> Result<(Self::Next, Outcome<Ats<'a>>), (Self, Refusal)>
+    fn listen<'a>(self, bytes: Option<&'a [u8]>, out: &mut [u8]) -> Heard<'a, Self::Next, Self>
         ensures { Hears (Self.settings self) (Self.reader self) (event_seen bytes.entry) (heard_by next Self.settings Self.reader result out.new) out.old out.new };
 
     /// A frame was heard.
-    fn heard<'a>(
-        self,
-        frame: &'a [u8],
-        out: &mut [u8],
-    ) -> Result<(Self::Next, Outcome<Ats<'a>>), (Self, Refusal)>
+    fn heard<'a>(self, frame: &'a [u8], out: &mut [u8]) -> Heard<'a, Self::Next, Self>
         ensures { Does (Self.settings self) (Self.reader self) (hears frame.now) (heard_by next Self.settings Self.reader result out.new) out.old out.new }
     {
         self.listen(Some(frame), out)
     }
 
     /// Nothing was heard for as long as the reader had to listen.
-    fn silent<'a>(
-        self,
-        out: &mut [u8],
-    ) -> Result<(Self::Next, Outcome<Ats<'a>>), (Self, Refusal)>
+    fn silent<'a>(self, out: &mut [u8]) -> Heard<'a, Self::Next, Self>
         ensures { Does (Self.settings self) (Self.reader self) hears_nothing (heard_by next Self.settings Self.reader result out.new) out.old out.new }
     {
         self.listen(None, out)

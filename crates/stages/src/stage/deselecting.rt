@@ -10,10 +10,9 @@ ghost use Rattle.stages.specs.Setups.{setup_seen};
 ghost use Rattle.stages.specs.Stages.{closing_seen, closed_seen, latest_link, link_held};
 
 use super::{Closed, Closing, Listen, Stage};
-use crate::next::AfterDeselect;
+use crate::next::{AfterDeselect, Heard};
 use crate::outcome::Outcome;
 use crate::requests::{is_deselect, write_deselect};
-use activation::Ats;
 use exchange::{Link, Sent};
 use frames::{Agreed, CardNumber, GREATEST_FRAME, Refusal};
 
@@ -26,7 +25,7 @@ impl Listen for Closing {
         self,
         bytes: Option<&'a [u8]>,
         out: &mut [u8],
-    ) -> Result<(AfterDeselect, Outcome<Ats<'a>>), (Closing, Refusal)> {
+    ) -> Heard<'a, AfterDeselect, Closing> {
         if out.len() < GREATEST_FRAME {
             return Err((self, Refusal::Buffer));
         }
@@ -40,10 +39,7 @@ impl Listen for Closing {
 
 impl Closing {
     /// Deselect again, while there are repeats left.
-    fn again<'a>(
-        self,
-        out: &mut [u8],
-    ) -> Result<(AfterDeselect, Outcome<Ats<'a>>), (Closing, Refusal)>
+    fn again<'a>(self, out: &mut [u8]) -> Heard<'a, AfterDeselect, Closing>
         requires { greatest_frame ≤ length out.old }
         ensures { Makes (setup_seen self.setup) (on_deselect (setup_seen self.setup) (closing_seen self).link (closing_seen self).exchange false) (heard_by at_deselect (λ s. setup_seen s.setup) closing_seen result out.new) out.old out.new }
     {

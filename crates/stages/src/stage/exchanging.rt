@@ -6,9 +6,8 @@ ghost use Rattle.stages.specs.Setups.{setup_seen};
 ghost use Rattle.stages.specs.Stages.{idle_seen, busy_seen};
 
 use super::{Busy, Ended, Idle, Listen};
-use crate::next::AfterBlock;
+use crate::next::{AfterBlock, Heard};
 use crate::outcome::Outcome;
-use activation::Ats;
 use exchange::{Report, Sent, Turn};
 use frames::Refusal;
 
@@ -33,11 +32,7 @@ impl Listen for Busy {
 
     ghost next = { at_block };
 
-    fn listen<'a>(
-        self,
-        bytes: Option<&'a [u8]>,
-        out: &mut [u8],
-    ) -> Result<(AfterBlock, Outcome<Ats<'a>>), (Busy, Refusal)> {
+    fn listen<'a>(self, bytes: Option<&'a [u8]>, out: &mut [u8]) -> Heard<'a, AfterBlock, Busy> {
         let Busy {
             setup,
             mut exchange,

@@ -13,7 +13,7 @@ ghost use Rattle.stages.specs.Setups.{wished, setup_seen, setup_for, all_least};
 ghost use Rattle.stages.specs.Stages.{unwoken_seen, asking_seen, woken_seen};
 
 use super::{Asking, Failed, Idle, Listen, Unwoken, Woken};
-use crate::next::AfterRats;
+use crate::next::{AfterRats, Heard};
 use crate::outcome::Outcome;
 use crate::requests::{hear_answer, write_request};
 use crate::settings::Settings;
@@ -73,11 +73,7 @@ impl Listen for Asking {
 
     ghost next = { at_rats };
 
-    fn listen<'a>(
-        self,
-        bytes: Option<&'a [u8]>,
-        out: &mut [u8],
-    ) -> Result<(AfterRats, Outcome<Ats<'a>>), (Asking, Refusal)> {
+    fn listen<'a>(self, bytes: Option<&'a [u8]>, out: &mut [u8]) -> Heard<'a, AfterRats, Asking> {
         if out.len() < GREATEST_FRAME {
             return Err((self, Refusal::Buffer));
         }
@@ -90,10 +86,7 @@ impl Listen for Asking {
 
 impl Asking {
     /// The card is awake; an ATS that was read has no reserved value, so that it gives a link.
-    fn wake<'a>(
-        self,
-        ats: Ats<'a>,
-    ) -> Result<(AfterRats, Outcome<Ats<'a>>), (Asking, Refusal)>
+    fn wake<'a>(self, ats: Ats<'a>) -> Heard<'a, AfterRats, Asking>
         requires { ValidAts (said_by ats) }
         ensures { (buffer : List ℕ) → Makes (setup_seen self.setup) (on_ats (setup_seen self.setup) (asking_seen self).link (asking_seen self).exchange (good (said_by ats.entry))) (heard_by at_rats (λ s. setup_seen s.setup) asking_seen result buffer) buffer buffer }
     {
@@ -102,15 +95,14 @@ impl Asking {
             return Err((self, Refusal::Setting));
         };
         let exchange = Exchange::new(link);
-        Ok((AfterRats::Woken(Woken { setup, exchange }), Outcome::Wakes(ats)))
+        Ok((
+            AfterRats::Woken(Woken { setup, exchange }),
+            Outcome::Wakes(ats),
+        ))
     }
 
     /// RATS again, while there are repeats left.
-    fn again<'a>(
-        self,
-        why: Cause,
-        out: &mut [u8],
-    ) -> Result<(AfterRats, Outcome<Ats<'a>>), (Asking, Refusal)>
+    fn again<'a>(self, why: Cause, out: &mut [u8]) -> Heard<'a, AfterRats, Asking>
         requires { greatest_frame ≤ length out.old }
         ensures { Makes (setup_seen self.setup) (on_ats (setup_seen self.setup) (asking_seen self).link (asking_seen self).exchange (bad (cause_seen why))) (heard_by at_rats (λ s. setup_seen s.setup) asking_seen result out.new) out.old out.new }
     {
