@@ -1,6 +1,7 @@
 pub mod Crossings
 pub mod Delivered
 pub mod Going
+pub mod Heard
 pub mod Kept
 pub mod Meetings
 pub mod Ordered

@@ -10,6 +10,13 @@ use super::air::Air;
 use applications::Application;
 use card::Card;
 
+/// How much of a reply can be heard.
+fn heard(audible: bool, len: Option<usize>) -> Option<usize>
+    ensures { result ≡ (if audible then len else None) }
+{
+    if audible { len } else { None }
+}
+
 /// The card takes a frame; its reply can be heard if it is audible. Answers whether the application was given a command.
 pub fn deliver<A: Application>(
     card: &mut Card<A>,
@@ -25,7 +32,7 @@ pub fn deliver<A: Application>(
 {
     match card.hear(frame, &mut air.bytes) {
         Ok(response) => {
-            air.reply = response.len.filter(|_| audible);
+            air.reply = heard(audible, response.len);
             response.given
         }
         Err(_) => false,

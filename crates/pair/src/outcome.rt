@@ -52,7 +52,7 @@ fn copied(ats: Ats<'_>) -> Woken
 pub(crate) fn kept(told: Result<stages::Outcome<Ats<'_>>, Refusal>) -> Result<Outcome, Refusal>
     requires { Short (told_by said_by told []).outcome }
     ensures seen { (buffer : List ℕ) → answer_seen result buffer ≡ (told_by said_by told.entry buffer).outcome }
-    ensures size { size_in result ≡ (told_by said_by told.entry []).size }
+    ensures size { (buffer : List ℕ) → size_in result ≡ (told_by said_by told.entry buffer).size }
 {
     Ok(told?.map(copied))
 }

@@ -11,7 +11,7 @@ use applications::Application;
 use card::{Card, CardSettings};
 use exchange::Says;
 use frames::Refusal;
-use reader::Session;
+use reader::{Session, Stage};
 use stages::Settings;
 
 impl<A: Application> Pair<A> {

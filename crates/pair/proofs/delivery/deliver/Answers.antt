@@ -19,24 +19,12 @@ invariant_of-air g c =
           ∙ fits-replied m.answer c.args.audible c.args.air.now.bytes c.hear.new.out (said.bytes ∙ buffer_heard_lem m room full c.args.air.now.bytes) whole;
     }
 
-pub returns-in-Ok : goal.returns-in-Ok
-returns-in-Ok g c =
+pub returns-in-Ok-clause-air : goal.returns-in-Ok-clause-air
+returns-in-Ok-clause-air g c =
     let m = move_at g.A.Application.model c.args.card.now c.args.frame.now in
     let room : ℕ = length c.args.air.now.bytes in
     let full : room ≡ 256 = c.args.air.now.full in
     let said = c.in-Ok.ensures in
     let len : c.heard-air.result ≡ cond c.args.audible _ None = c.heard-air.ensures ∙ ap (λ o. cond c.args.audible o None) (len_heard m room full c.in-Ok.response said.value) in
-    record {
-      given = given_heard m room full c.in-Ok.response said.value;
-      card = said.card ∙ card_heard_lem m room full _;
-      application = said.application ∙ state_heard_lem m room full _;
-      settings = said.settings;
-      air =
-          ap (λ o. front_of o c.hear.new.out) len
-          ∙ front_replied m.answer c.args.audible c.args.air.now.bytes c.hear.new.out (said.bytes ∙ buffer_heard_lem m room full c.args.air.now.bytes);
-    }
-
-pub returns-in-Err : goal.returns-in-Err
-returns-in-Err g c =
-    let m = move_at g.A.Application.model c.args.card.now c.args.frame.now in
-    absurd (never_refused m (length c.args.air.now.bytes) c.args.air.now.full _ c.in-Err.ensures.value)
+    ap (λ o. front_of o c.hear.new.out) len
+    ∙ front_replied m.answer c.args.audible c.args.air.now.bytes c.hear.new.out (said.bytes ∙ buffer_heard_lem m room full c.args.air.now.bytes)

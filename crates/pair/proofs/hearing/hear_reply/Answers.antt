@@ -1,24 +1,34 @@
-use Rattle.std.proofs.Common.{length, sym, ap, subst}
-use Rattle.protocol.specs.Reader.{Move, heard, do_call}
+use Rattle.std.proofs.Common.{◌≤◌, length, sym, ap, ◌∙◌, subst}
+use Rattle.exchange.specs.Listening.{event_seen}
+use Rattle.protocol.specs.Reader.{Move}
 use Rattle.reader.specs.Sessions.{session_seen, settings_of}
 use Rattle.pair.specs.Airs.{reply_seen}
 use Rattle.pair.specs.Deeds.{hearing}
 use Rattle.pair.specs.Readings.{Reads}
-use Rattle.pair.proofs.Kept.{can_keep, keeps}
-use Rattle.pair.proofs.Meetings.{reply_is}
+use Rattle.pair.proofs.Heard.{reply_heard}
+use Rattle.pair.proofs.Kept.{can_keep}
 use Rattle.pair.proofs.hearing.hear_reply.Goals as goal
 
-pub of-requires : goal.of-requires
-of-requires c =
-    can_keep (settings_of c.args.reader.now) (session_seen c.args.reader.now) (heard c.in-Some.frame.now (length c.args.out.now))
-    c.heard-in-Some.result c.heard-in-Some.new.out (ap (λ (x : Move). x.outcome) c.heard-in-Some.ensures.move)
-
-pub returns-in-Some : goal.returns-in-Some
-returns-in-Some c =
+pub kept-requires : goal.kept-requires
+kept-requires c =
     let s = settings_of c.args.reader.now in
     let r = session_seen c.args.reader.now in
-    let f = c.in-Some.frame.now in
+    let a = reply_seen c.args.air.now in
     let room = length c.args.out.now in
-    subst (λ a. Reads s (do_call s r (hearing a room)) c.heard-in-Some.new.self c.of.result c.args.out.now c.heard-in-Some.new.out)
-    (sym (reply_is (reply_seen c.args.air.now) f c.in-Some.ensures))
-    (keeps s (do_call s r (heard f room)) c.heard-in-Some.new.self c.heard-in-Some.result c.of.result c.args.out.now c.heard-in-Some.new.out c.heard-in-Some.ensures c.of.ensures.seen c.of.ensures.size)
+    can_keep s r (hearing a room) c.listen.result c.listen.new.out
+    (ap (λ (x : Move). x.outcome) (c.listen.ensures.move ∙ reply_heard s r a (event_seen c.heard.result) room c.heard.ensures))
+
+pub returns : goal.returns
+returns c =
+    let s = settings_of c.args.reader.now in
+    let r = session_seen c.args.reader.now in
+    let same = reply_heard s r (reply_seen c.args.air.now) (event_seen c.heard.result) (length c.args.out.now) c.heard.ensures in
+    let told = c.listen.ensures in
+    subst (λ m. Reads s m c.listen.new.self c.kept.result c.args.out.now c.listen.new.out) same
+    (record {
+      settings = told.settings;
+      reader = ap (λ (x : Move). x.reader) told.move;
+      outcome = c.kept.ensures.seen c.listen.new.out ∙ ap (λ (x : Move). x.outcome) told.move;
+      bytes = told.buffer;
+      within = subst (λ n. n ≤ length c.listen.new.out) (sym (c.kept.ensures.size c.listen.new.out)) told.within;
+    })
