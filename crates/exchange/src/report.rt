@@ -3,14 +3,7 @@ ghost use Rattle.std.specs.Prelude.{◌≡◌};
 ghost use Rattle.protocol.specs.Reader.{ending_number};
 ghost use Rattle.exchange.specs.Views.{ending_seen};
 
-use frames::{Cause, Layer};
-
-/// No cause since the last fresh frame.
-pub const NO_CAUSE: Cause = Cause {
-    number: 0,
-    place: 0,
-    layer: Layer::Block,
-};
+use frames::Cause;
 
 /// What the reader says of its latest command.
 #[derive(Clone, Copy)]
@@ -45,8 +38,8 @@ pub struct Report {
 /// Why an exchange, or a waking, ended against the reader's will.
 #[derive(Clone, Copy)]
 pub enum Ending {
-    /// the repeats are spent; the last cause
-    Spent(Cause),
+    /// the repeats are spent; the last cause, if one came since the last fresh frame
+    Spent(Option<Cause>),
     /// a block that breaks the rules
     Broken,
     /// a wait too many

@@ -1,6 +1,6 @@
 //! What a reader is set to in an exchange, and what each turn of one comes to.
+use super::exchange::{Exchange, Running};
 use super::report::{Ending, Report};
-use frames::Refusal;
 
 /// The reader's frame size, how often it repeats a fresh frame, and how many waits of an exchange it grants.
 #[derive(Clone, Copy)]
@@ -18,14 +18,20 @@ pub struct Sent {
 }
 
 /// What the reader does about what it heard.
-#[derive(Clone, Copy)]
+#[derive(Drop)]
 pub enum Turn {
-    /// nothing, for a fault of the host's own
-    Refused(Refusal),
     /// it goes on with a frame
-    Wrote(Sent),
+    Wrote { running: Running, sent: Sent },
     /// it is done, with an answer of this length
-    Answered { len: usize, report: Report },
+    Answered {
+        exchange: Exchange,
+        len: usize,
+        report: Report,
+    },
     /// it ends against its will
-    Over { ending: Ending, report: Report },
+    Over {
+        exchange: Exchange,
+        ending: Ending,
+        report: Report,
+    },
 }
