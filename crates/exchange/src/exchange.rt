@@ -1,8 +1,8 @@
 //! An exchange over a link: a command sent in parts, and its answer gathered.
-ghost use Rattle.std.specs.Prelude.{◌≡◌, ◌+◌, ◌*◌, ◌<◌, ◌≤◌, ◌++◌, length, nat_le};
+ghost use Rattle.std.specs.Prelude.{◌≡◌, ◌+◌, ◌*◌, ◌<◌, ◌≤◌, ◌++◌, IfOk, IfErr, is_ok, length, nat_le};
 ghost use Rattle.buffers.specs.Rooms.{answer_room};
 ghost use Rattle.buffers.specs.Stores.{held};
-ghost use Rattle.protocol.specs.Reader.{blank_exchange, running, say_of, more};
+ghost use Rattle.protocol.specs.Reader.{blank_exchange, begun, is_command, running, say_of, more};
 ghost use Rattle.exchange.specs.Links.{link_seen};
 ghost use Rattle.exchange.specs.Views.{progress_seen, says_seen, totals_seen};
 
@@ -11,7 +11,7 @@ use super::progress::Progress;
 use super::report::{Report, Says, Totals};
 use super::turn::Sent;
 use buffers::{ANSWER_ROOM, AnswerStore, COMMAND_ROOM, CommandStore};
-use frames::{Cause, GREATEST_FRAME, Refusal};
+use frames::{Cause, Refusal};
 
 mod acknowledged;
 mod answered;
@@ -49,8 +49,9 @@ pub struct Exchange {
 }
 
 impl Exchange {
-    ghost use Rattle.exchange.specs.Exchanges.{exchange_seen};
+    ghost use Rattle.exchange.specs.Exchanges.{exchange_seen, room_for};
     ghost use Rattle.exchange.specs.Moves.{Begins, beginning};
+    ghost use Rattle.exchange.specs.Runs.{run_link, run_seen};
 
     /// Before a command.
     pub fn new(link: Link) -> Exchange
@@ -79,15 +80,26 @@ impl Exchange {
 
     /// Copies a command of 1 to 261 bytes, and writes its first block to the front of `out`.
     pub fn begin(
-        mut self,
+        self,
         command: &[u8],
         out: &mut [u8],
     ) -> Result<(Running, Sent), (Exchange, Refusal)>
         ensures { Begins (beginning (link_seen self.link) (exchange_seen self) command.now (length out.old)) result out.old out.new }
     {
-        if out.len() < GREATEST_FRAME {
+        let Some(out) = out.first_chunk_mut() else {
             return Err((self, Refusal::Buffer));
-        }
+        };
+        let running = self.load(command)?;
+        let sent = running.send_part(out);
+        Ok((running, sent))
+    }
+
+    /// Copies a command of 1 to 261 bytes, and empties the answer: the first block is to go out.
+    fn load(mut self, command: &[u8]) -> Result<Running, (Exchange, Refusal)>
+        ensures taken { is_ok result ≡ is_command command.now }
+        ensures ok { IfOk result (λ r. (run_link r ≡ link_seen self.link) × (run_seen r ≡ begun (room_for self.link) self.number command.now)) }
+        ensures err { IfErr result (λ kept. kept ≡ (self, Refusal.Length)) }
+    {
         if command.is_empty() || command.len() > COMMAND_ROOM {
             return Err((self, Refusal::Length));
         }
@@ -106,9 +118,7 @@ impl Exchange {
         self.stretch = 0;
         self.other = false;
         self.came = false;
-        let running = Running::new(self);
-        let sent = running.send_part(out);
-        Ok((running, sent))
+        Ok(Running::new(self))
     }
 
     /// The link that the exchange goes over.

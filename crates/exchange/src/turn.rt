@@ -21,7 +21,10 @@ pub struct Sent {
 #[derive(Drop)]
 pub enum Turn {
     /// it goes on with a frame
-    Wrote { running: Running, sent: Sent },
+    Wrote {
+        running: Running,
+        sent: Sent,
+    },
     /// it is done, with an answer of this length
     Answered {
         exchange: Exchange,

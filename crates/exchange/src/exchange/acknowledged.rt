@@ -1,19 +1,18 @@
 //! What an R(ACK) does. A rule that no limit bears on has 0 for the limits in its contract.
 ghost use Rattle.std.specs.Prelude.{◌≡◌, Ok, ◌≤◌, length};
-ghost use Rattle.frames.specs.Sizes.{greatest_frame};
 ghost use Rattle.protocol.specs.Reader.{more, same, on_equal, on_other, on_ack};
 
 use super::Running;
 use crate::report::Ending;
 use crate::turn::{Limits, Turn};
+use frames::GREATEST_FRAME;
 
 impl Running {
     ghost use Rattle.exchange.specs.Moves.{Does};
     ghost use Rattle.exchange.specs.Runs.{run_link, run_seen};
 
     /// R(ACK) of equal number: the next part, fresh, if there is one.
-    fn on_equal(self, out: &mut [u8]) -> Turn
-        requires room { greatest_frame ≤ length out.old }
+    fn on_equal(self, out: &mut [u8; GREATEST_FRAME]) -> Turn
         ensures { Does (on_equal 0 0 (run_link self) (run_seen self) (more (run_seen self).rest)) (Ok result) out.old out.new }
     {
         if !self.exchange.has_more() {
@@ -31,8 +30,7 @@ impl Running {
     }
 
     /// R(ACK) of the other number: the part again, a repeat, unless the answer has begun.
-    fn on_other(self, limits: Limits, out: &mut [u8]) -> Turn
-        requires room { greatest_frame ≤ length out.old }
+    fn on_other(self, limits: Limits, out: &mut [u8; GREATEST_FRAME]) -> Turn
         ensures { Does (on_other limits.repeats limits.waits (run_link self) (run_seen self) (more (run_seen self).answer)) (Ok result) out.old out.new }
     {
         let Running { mut exchange } = self;
@@ -52,8 +50,7 @@ impl Running {
     }
 
     /// R(ACK), by its number.
-    pub(super) fn on_ack(self, limits: Limits, number: bool, out: &mut [u8]) -> Turn
-        requires room { greatest_frame ≤ length out.old }
+    pub(super) fn on_ack(self, limits: Limits, number: bool, out: &mut [u8; GREATEST_FRAME]) -> Turn
         ensures { Does (on_ack limits.repeats limits.waits (run_link self) (run_seen self) (same number (run_seen self).number)) (Ok result) out.old out.new }
     {
         if number == self.exchange.number {

@@ -1,13 +1,13 @@
 //! What an I-block does. No limit bears on it: its rule has 0 for the limits in its contract.
 ghost use Rattle.std.specs.Prelude.{◌≡◌, Ok, ◌<◌, ◌≤◌, not, length};
 ghost use Rattle.frames.specs.Check.{both};
-ghost use Rattle.frames.specs.Sizes.{greatest_frame};
 ghost use Rattle.protocol.specs.Reader.{more, same, on_information};
 
 use super::Running;
 use crate::progress::Progress;
 use crate::report::Ending;
 use crate::turn::Turn;
+use frames::GREATEST_FRAME;
 
 impl Running {
     ghost use Rattle.exchange.specs.Moves.{Does};
@@ -20,10 +20,9 @@ impl Running {
         chaining: bool,
         number: bool,
         information: &[u8],
-        out: &mut [u8],
+        out: &mut [u8; GREATEST_FRAME],
     ) -> Turn
         requires some { 0 < length information.now }
-        requires room { greatest_frame ≤ length out.old }
         ensures { Does (on_information 0 0 (run_link self) (run_seen self) (both (same number (run_seen self).number) (not (more (run_seen self).rest))) chaining information.now) (Ok result) out.old out.new }
     {
         if number != self.exchange.number || self.exchange.has_more() {

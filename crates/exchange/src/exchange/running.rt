@@ -4,7 +4,7 @@ ghost use Rattle.frames.specs.Blocks.{ValidBlock};
 ghost use Rattle.frames.specs.Faults.{cause_seen};
 ghost use Rattle.frames.specs.Sizes.{greatest_frame};
 ghost use Rattle.frames.specs.Views.{block_seen};
-ghost use Rattle.protocol.specs.Reader.{running, on_invalid, on_wait, on_block};
+ghost use Rattle.protocol.specs.Reader.{running, on_invalid, on_wait, on_block, on_reading, read_as, agreed_of};
 ghost use Rattle.exchange.specs.Listening.{event_seen};
 ghost use Rattle.exchange.specs.Views.{progress_seen};
 
@@ -50,8 +50,7 @@ impl Running {
     }
 
     /// Silence, or an invalid block: ask again, with R(NAK), or with R(ACK) once the answer's first block is in.
-    fn on_invalid(self, limits: Limits, cause: Cause, out: &mut [u8]) -> Turn
-        requires room { greatest_frame ≤ length out.old }
+    fn on_invalid(self, limits: Limits, cause: Cause, out: &mut [u8; GREATEST_FRAME]) -> Turn
         ensures { Does (on_invalid limits.repeats limits.waits (run_link self) (run_seen self) (cause_seen cause)) (Ok result) out.old out.new }
     {
         if self.exchange.since >= limits.repeats {
@@ -66,10 +65,9 @@ impl Running {
     }
 
     /// A wait is answered with its multiplier, up to the limit; it is neither fresh nor a repeat.
-    fn on_wait(self, limits: Limits, multiplier: u8, out: &mut [u8]) -> Turn
+    fn on_wait(self, limits: Limits, multiplier: u8, out: &mut [u8; GREATEST_FRAME]) -> Turn
         requires low { 0 < multiplier }
         requires high { multiplier < 60 }
-        requires room { greatest_frame ≤ length out.old }
         ensures { Does (on_wait limits.repeats limits.waits (run_link self) (run_seen self) multiplier) (Ok result) out.old out.new }
     {
         let Running { mut exchange } = self;
@@ -86,9 +84,8 @@ impl Running {
     }
 
     /// A block by its kind.
-    fn on_block(self, limits: Limits, block: Block<'_>, out: &mut [u8]) -> Turn
+    fn on_block(self, limits: Limits, block: Block<'_>, out: &mut [u8; GREATEST_FRAME]) -> Turn
         requires valid { ValidBlock (block_seen block) }
-        requires room { greatest_frame ≤ length out.old }
         ensures { Does (on_block limits.repeats limits.waits (run_link self) (run_seen self) (block_seen block.entry)) (Ok result) out.old out.new }
     {
         match block {
@@ -105,6 +102,17 @@ impl Running {
         }
     }
 
+    /// What was heard after the last frame, or silence.
+    fn on_heard(self, limits: Limits, heard: Option<&[u8]>, out: &mut [u8; GREATEST_FRAME]) -> Turn
+        ensures does { Does (on_reading limits.repeats limits.waits (run_link self) (run_seen self) (read_as limits.fsd (agreed_of (run_link self).cid) (event_seen heard.entry))) (Ok result) out.old out.new }
+        ensures whole { length out.new ≡ greatest_frame }
+    {
+        match listen(heard, limits.fsd, self.exchange.link.agreed()) {
+            Ok(block) => self.on_block(limits, block, out),
+            Err(fault) => self.on_invalid(limits, fault.cause(), out),
+        }
+    }
+
     /// What was heard after the last frame, or silence. A frame of the exchange is written to the front of `out`.
     pub fn hear(
         self,
@@ -114,13 +122,9 @@ impl Running {
     ) -> Result<Turn, (Running, Refusal)>
         ensures { Does (hearing limits (run_link self) (run_seen self) (event_seen heard.entry) (length out.old)) result out.old out.new }
     {
-        if out.len() < GREATEST_FRAME {
+        let Some(out) = out.first_chunk_mut() else {
             return Err((self, Refusal::Buffer));
-        }
-        let turn = match listen(heard, limits.fsd, self.exchange.link.agreed()) {
-            Ok(block) => self.on_block(limits, block, out),
-            Err(fault) => self.on_invalid(limits, fault.cause(), out),
         };
-        Ok(turn)
+        Ok(self.on_heard(limits, heard, out))
     }
 }

@@ -10,17 +10,16 @@ ghost use Rattle.exchange.specs.Views.{ending_seen};
 use super::Running;
 use crate::report::Ending;
 use crate::turn::{Sent, Turn};
-use frames::{Block, write_block};
+use frames::{Block, GREATEST_FRAME, write_block};
 
 impl Running {
     ghost use Rattle.exchange.specs.Moves.{Does, Sends};
     ghost use Rattle.exchange.specs.Runs.{run_link, run_seen};
 
     /// Writes the frame of a block that can be sent, so that writing it does not fail.
-    pub(super) fn send(&self, block: Block<'_>, out: &mut [u8]) -> Sent
+    pub(super) fn send(&self, block: Block<'_>, out: &mut [u8; GREATEST_FRAME]) -> Sent
         requires range { in_range (block_seen block) ≡ true }
         requires goes { sendable (block_seen block) ≡ true }
-        requires room { greatest_frame ≤ length out.old }
         ensures { Sends (writes (run_link self.now) (run_seen self.now) (block_seen block.entry)) self.now result out.old out.new }
     {
         Sent {
@@ -40,33 +39,42 @@ impl Running {
     }
 
     /// Writes the frame of the last block.
-    pub(super) fn send_part(&self, out: &mut [u8]) -> Sent
-        requires room { greatest_frame ≤ length out.old }
-        ensures { Sends (writes (run_link self.now) (run_seen self.now) (part_block (run_link self.now) (run_seen self.now))) self.now result out.old out.new }
+    pub(super) fn send_part(&self, out: &mut [u8; GREATEST_FRAME]) -> Sent
+        ensures sends { Sends (writes (run_link self.now) (run_seen self.now) (part_block (run_link self.now) (run_seen self.now))) self.now result out.old out.new }
+        ensures whole { length out.new ≡ greatest_frame }
     {
         let part = self.part();
         let exchange = &self.exchange;
-        let block = Block::carrying(exchange.has_more(), exchange.number, exchange.link.card(), part);
+        let block = Block::carrying(
+            exchange.has_more(),
+            exchange.number,
+            exchange.link.card(),
+            part,
+        );
         self.send(block, out)
     }
 
     /// The exchange goes on with a part of the command.
-    pub(super) fn write_part(self, out: &mut [u8]) -> Turn
-        requires room { greatest_frame ≤ length out.old }
+    pub(super) fn write_part(self, out: &mut [u8; GREATEST_FRAME]) -> Turn
         ensures { Does (writes (run_link self) (run_seen self) (part_block (run_link self) (run_seen self))) (Ok result) out.old out.new }
     {
         let sent = self.send_part(out);
-        Turn::Wrote { running: self, sent }
+        Turn::Wrote {
+            running: self,
+            sent,
+        }
     }
 
     /// The exchange goes on with an R-block.
-    pub(super) fn acknowledge(self, nak: bool, out: &mut [u8]) -> Turn
-        requires room { greatest_frame ≤ length out.old }
+    pub(super) fn acknowledge(self, nak: bool, out: &mut [u8; GREATEST_FRAME]) -> Turn
         ensures { Does (writes (run_link self) (run_seen self) (r_block nak (run_seen self).number (run_link self).cid)) (Ok result) out.old out.new }
     {
         let block = Block::acknowledging(nak, self.exchange.number, self.exchange.link.card());
         let sent = self.send(block, out);
-        Turn::Wrote { running: self, sent }
+        Turn::Wrote {
+            running: self,
+            sent,
+        }
     }
 
     /// The exchange ends against the reader's will.
