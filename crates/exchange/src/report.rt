@@ -6,7 +6,7 @@ ghost use Rattle.exchange.specs.Views.{ending_seen};
 use frames::Cause;
 
 /// What the reader says of its latest command.
-#[derive(Clone, Copy)]
+#[derive(Clone, Copy, Debug, PartialEq, Eq)]
 pub enum Says {
     /// there is none
     Nothing,
@@ -21,7 +21,7 @@ pub enum Says {
 }
 
 /// The frames of an exchange, by what each was written for.
-#[derive(Clone, Copy)]
+#[derive(Clone, Copy, Debug, PartialEq, Eq)]
 pub struct Totals {
     pub fresh: u32,
     pub repeats: u32,
@@ -29,7 +29,7 @@ pub struct Totals {
 }
 
 /// What an exchange leaves to be told.
-#[derive(Clone, Copy)]
+#[derive(Clone, Copy, Debug, PartialEq, Eq)]
 pub struct Report {
     pub says: Says,
     pub totals: Totals,

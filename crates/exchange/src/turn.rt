@@ -3,7 +3,7 @@ use super::exchange::{Exchange, Running};
 use super::report::{Ending, Report};
 
 /// The reader's frame size, how often it repeats a fresh frame, and how many waits of an exchange it grants.
-#[derive(Clone, Copy)]
+#[derive(Clone, Copy, Debug, PartialEq, Eq)]
 pub struct Limits {
     pub fsd: usize,
     pub repeats: u8,
@@ -11,7 +11,7 @@ pub struct Limits {
 }
 
 /// A frame was written: its length, and for how many carrier cycles to listen.
-#[derive(Clone, Copy)]
+#[derive(Clone, Copy, Debug, PartialEq, Eq)]
 pub struct Sent {
     pub len: usize,
     pub cycles: u32,
