@@ -1,5 +1,5 @@
 -- What is heard and read.
-use Rattle.std.proofs.Common.{◌≡◌, ℕ, List, IfOk, Some, None, Ok, Err, Option, Result, sym, ap, arith, Bor}
+use Rattle.std.proofs.Common.{◌≡◌, ℕ, List, IfOk, Ok, Err, Result, sym}
 use Rattle.frames.proofs.BlockLaws.{reads_only_its_frame}
 use Rattle.frames.specs.Blocks.{ValidBlock}
 use Rattle.frames.specs.Laws.{Bytes}
@@ -7,9 +7,6 @@ use Rattle.frames.specs.Reading.{Agreed, read_frame}
 use Rattle.frames.specs.Views.{block_seen, seen}
 use Rattle.frames.specs.declared.block.Block.{Block}
 use Rattle.frames.specs.declared.fault.BlockFault.{BlockFault}
-use Rattle.frames.specs.declared.fault.FrameFault.{FrameFault}
-use Rattle.protocol.specs.Reader.{read_as}
-use Rattle.exchange.specs.Listening.{event_seen, heard_bytes}
 
 -- a block that is read is one
 pub valid_seen : (limit : ℕ) (agreed : Agreed) (f : List ℕ) (r : Result Block BlockFault) → Bytes f → seen r ≡ read_frame limit agreed f → IfOk r (λ b. ValidBlock (block_seen b))
