@@ -1,10 +1,6 @@
--- The bytes that each store has gathered.
+-- The bytes that a store has gathered.
 use Rattle.std.specs.Prelude.{ℕ, List, take}
-use Rattle.buffers.specs.declared.answer.AnswerStore.{AnswerStore}
-use Rattle.buffers.specs.declared.command.CommandStore.{CommandStore}
+use Rattle.buffers.specs.declared.store.Store.{Store}
 
-abbrev pub command_held : CommandStore → List ℕ
-command_held s = take s.len s.bytes
-
-abbrev pub answer_held : AnswerStore → List ℕ
-answer_held s = take s.len s.bytes
+abbrev pub held : {N : ℕ} → Store N → List ℕ
+held s = take s.len s.bytes

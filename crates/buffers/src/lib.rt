@@ -4,11 +4,9 @@
 ghost use Rattle.std.specs.Prelude.{◌≡◌, ◌+◌, ◌≤◌, length};
 ghost use Rattle.buffers.specs.Over.{over, over_at};
 
-mod answer;
-mod command;
+mod store;
 
-pub use answer::{ANSWER_ROOM, AnswerStore};
-pub use command::{COMMAND_ROOM, CommandStore};
+pub use store::{ANSWER_ROOM, AnswerStore, COMMAND_ROOM, CommandStore, Full, Store};
 
 /// Copies `bytes` to the front of `part`, and changes no other byte of it.
 pub fn copy(part: &mut [u8], bytes: &[u8])

@@ -1,6 +1,6 @@
 -- The model's card that the code's values stand for.
 use Rattle.std.specs.Prelude.{ℕ, Bool, false, List, take, drop, nat_le}
-use Rattle.buffers.specs.Stores.{command_held}
+use Rattle.buffers.specs.Stores.{held}
 use Rattle.frames.specs.Blocks.{i_block, r_block, wait}
 use Rattle.frames.specs.Check.{both}
 use Rattle.frames.specs.Views.{cid_seen}
@@ -60,7 +60,7 @@ awake_of w =
       dsi = w.dsi;
       dri = w.dri;
       number = w.number;
-      gathered = command_held w.gathered;
+      gathered = held w.gathered;
       owes = owed_of w.owes (answer_of w.answer);
       last = last_of w.last (answer_of w.answer);
     }

@@ -2,7 +2,7 @@
 use Rattle.std.specs.Prelude.{ℕ, ◌≤◌, List, length, take}
 use Rattle.activation.specs.Ats.{Ats, ats}
 use Rattle.buffers.specs.Rooms.{answer_room}
-use Rattle.buffers.specs.Stores.{answer_held}
+use Rattle.buffers.specs.Stores.{held}
 use Rattle.exchange.specs.Moves.{sent_seen}
 use Rattle.frames.specs.Refused.{refusal_number}
 use Rattle.protocol.specs.Reader.{Outcome, refused, wrote, wakes, active, answered, over, stopped, off, unanswered, fetched}
@@ -12,7 +12,7 @@ use Rattle.pair.specs.declared.outcome.Outcome as coded
 use Rattle.pair.specs.declared.outcome.Outcome.TheVariants.{Refused, Wrote, Wakes, Active, Answered, Over, Stopped, Off, Unanswered, Fetched}
 
 abbrev pub woken_seen : Woken → Ats
-woken_seen w = ats w.fsci w.ta w.fwi w.sfgi w.tc (answer_held w.historical)
+woken_seen w = ats w.fsci w.ta w.fwi w.sfgi w.tc (held w.historical)
 
 -- an answer, with the buffer after the call: a frame written, or an answer fetched, stands at its front
 abbrev pub answer_seen : coded.Outcome → List ℕ → Outcome

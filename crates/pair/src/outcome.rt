@@ -61,7 +61,7 @@ fn copied(ats: Ats<'_>) -> Woken
     ensures { woken_seen result ≡ said_by ats.entry }
 {
     let mut historical = AnswerStore::new();
-    historical.append(ats.historical);
+    historical.append(ats.historical).unwrap();
     Woken {
         fsci: ats.fsci,
         ta: ats.ta,

@@ -60,7 +60,7 @@ impl AwakeCard {
         requires { (0 < length information.now) × ((awake_of self.old).owes ≡ owes_nothing) }
         ensures { step_told self.new application.new result ≡ told_of (takes_i A.Application.model (awake_of self.old) application.old chaining (cid_seen card) information.now) }
     {
-        if !self.gathered.append(information) {
+        if self.gathered.append(information).is_err() {
             return Step::alone(self.stay_quiet());
         }
         self.number = !self.number;
