@@ -1,7 +1,7 @@
 //! What a test needs to play a session.
 use exchange::{Says, Totals};
 use frames::{GREATEST_FRAME, Refusal, seal};
-use reader::{Answer, Outcome, Session, Settings, number_of};
+use reader::{Answer, Outcome, Session, Settings, Stage, number_of};
 
 /// An ATS with frame size 16 and FWI 4, without card numbers, and with them.
 pub const PLAIN: [u8; 5] = [0x05, 0x70, 0x00, 0x40, 0x00];

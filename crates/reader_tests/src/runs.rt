@@ -16,7 +16,7 @@ fn started(settings: Settings, ats: &[u8], out: &mut [u8]) -> Result<Session, Fa
 fn spent_by_silence(answer: Answer<'_>) -> bool {
     let Ok(
         Outcome::Over {
-            ending: Ending::Spent(cause),
+            ending: Ending::Spent(Some(cause)),
             ..
         },
     ) = answer

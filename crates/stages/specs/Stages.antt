@@ -2,10 +2,10 @@
 use Rattle.std.specs.Prelude.{◌≡◌, ℕ, Some, None, Option}
 use Rattle.exchange.specs.Exchanges.{exchange_seen}
 use Rattle.exchange.specs.Links.{link_seen}
-use Rattle.exchange.specs.Views.{says_seen}
+use Rattle.exchange.specs.Runs.{run_seen, run_link}
+use Rattle.exchange.specs.Views.{says_seen, why_seen}
 use Rattle.exchange.specs.declared.exchange.Exchange as coded
 use Rattle.exchange.specs.declared.link.Link as held
-use Rattle.frames.specs.Faults.{cause_seen}
 use Rattle.frames.specs.declared.fault.Cause as found
 use Rattle.protocol.specs.Reader.{Reader, at, unwoken, asking, woken, failed, idle, busy, ended, closing, closed, Link, blank_link, Exchange, blank_exchange, tried, no_cause, says}
 use Rattle.stages.specs.declared.stage.Unwoken.{Unwoken}
@@ -23,8 +23,8 @@ abbrev pub unwoken_seen : Unwoken → Reader
 unwoken_seen s = at unwoken blank_link blank_exchange
 
 -- no command was begun; RATS was repeated so often
-abbrev pub awaited : ℕ → found.Cause → Exchange
-awaited n why = tried n (cause_seen why) blank_exchange
+abbrev pub awaited : ℕ → Option found.Cause → Exchange
+awaited n why = tried n (why_seen why) blank_exchange
 
 abbrev pub asking_seen : Asking → Reader
 asking_seen s = at asking blank_link (awaited s.tries s.why)
@@ -39,7 +39,7 @@ abbrev pub idle_seen : Idle → Reader
 idle_seen s = at idle (link_seen s.exchange.link) (exchange_seen s.exchange)
 
 abbrev pub busy_seen : Busy → Reader
-busy_seen s = at busy (link_seen s.exchange.link) (exchange_seen s.exchange)
+busy_seen s = at busy (run_link s.running) (run_seen s.running)
 
 abbrev pub ended_seen : Ended → Reader
 ended_seen s = at ended (link_seen s.exchange.link) (exchange_seen s.exchange)

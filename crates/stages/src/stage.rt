@@ -1,10 +1,6 @@
 //! The stages of a session. Each is a type of its own, is never copied, and has just the calls that belong to it.
-ghost use Rattle.std.specs.Prelude.{◌≡◌, true};
-ghost use Rattle.exchange.specs.Exchanges.{exchange_seen};
-ghost use Rattle.exchange.specs.Moves.{is_running};
-
 use super::setup::Setup;
-use exchange::Exchange;
+use exchange::{Exchange, Running};
 use frames::Cause;
 
 mod calls;
@@ -28,7 +24,7 @@ pub struct Unwoken {
 pub struct Asking {
     setup: Setup,
     tries: u8,
-    why: Cause,
+    why: Option<Cause>,
 }
 
 /// The card has answered with an ATS; no command was given yet.
@@ -55,8 +51,7 @@ pub struct Idle {
 #[derive(Drop)]
 pub struct Busy {
     setup: Setup,
-    exchange: Exchange,
-    ghost runs: { is_running (exchange_seen exchange).progress ≡ true },
+    running: Running,
 }
 
 /// An exchange has ended before it was done; only close is left.

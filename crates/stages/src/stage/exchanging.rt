@@ -16,13 +16,10 @@ impl Idle {
     pub fn begin(self, command: &[u8], out: &mut [u8]) -> Result<(Busy, Sent), (Idle, Refusal)>
         ensures { Does (setup_seen self.setup) (idle_seen self) (begins command.now) (began result out.new) out.old out.new }
     {
-        let Idle {
-            setup,
-            mut exchange,
-        } = self;
-        match exchange.begin(command, out) {
-            Ok(sent) => Ok((Busy { setup, exchange }, sent)),
-            Err(why) => Err((Idle { setup, exchange }, why)),
+        let setup = self.setup;
+        match self.exchange.begin(command, out) {
+            Ok((running, sent)) => Ok((Busy { setup, running }, sent)),
+            Err((exchange, why)) => Err((Idle { setup, exchange }, why)),
         }
     }
 }
@@ -33,24 +30,33 @@ impl Listen for Busy {
     ghost next = { at_block };
 
     fn listen<'a>(self, bytes: Option<&'a [u8]>, out: &mut [u8]) -> Heard<'a, AfterBlock, Busy> {
-        let Busy {
-            setup,
-            mut exchange,
-        } = self;
-        match exchange.hear(setup.limits(), bytes, out) {
-            Turn::Refused(why) => Err((Busy { setup, exchange }, why)),
-            Turn::Wrote(sent) => Ok((
-                AfterBlock::Busy(Busy { setup, exchange }),
-                Outcome::Wrote(sent),
-            )),
-            Turn::Answered { len, report } => Ok((
-                AfterBlock::Idle(Idle { setup, exchange }),
-                Outcome::Answered { len, report },
-            )),
-            Turn::Over { ending, report } => Ok((
-                AfterBlock::Ended(Ended { setup, exchange }),
-                Outcome::Over { ending, report },
-            )),
+        let setup = self.setup;
+        match self.running.hear(setup.limits(), bytes, out) {
+            Ok(Turn::Wrote { running, sent }) => {
+                let stage = Busy { setup, running };
+                Ok((AfterBlock::Busy(stage), Outcome::Wrote(sent)))
+            }
+            Ok(
+                Turn::Answered {
+                    exchange,
+                    len,
+                    report,
+                },
+            ) => {
+                let stage = Idle { setup, exchange };
+                Ok((AfterBlock::Idle(stage), Outcome::Answered { len, report }))
+            }
+            Ok(
+                Turn::Over {
+                    exchange,
+                    ending,
+                    report,
+                },
+            ) => {
+                let stage = Ended { setup, exchange };
+                Ok((AfterBlock::Ended(stage), Outcome::Over { ending, report }))
+            }
+            Err((running, why)) => Err((Busy { setup, running }, why)),
         }
     }
 }
@@ -60,10 +66,10 @@ impl Busy {
     pub fn give_up(self) -> (Ended, Report)
         ensures { Turns (setup_seen self.setup) (busy_seen self) gives_up (gave_up result) }
     {
-        let report = self.exchange.report();
+        let report = self.running.exchange().report();
         let stage = Ended {
             setup: self.setup,
-            exchange: self.exchange,
+            exchange: self.running.into(),
         };
         (stage, report)
     }

@@ -78,7 +78,7 @@ impl Stage for Busy {
     ghost reader = { busy_seen };
 
     fn view(&self) -> View {
-        View::of(&self.exchange)
+        View::of(self.running.exchange())
     }
 }
 
@@ -177,7 +177,7 @@ impl Fetch for Busy {
     ghost open = { λ _. refl };
 
     fn answer(&self) -> &[u8] {
-        self.exchange.answer()
+        self.running.exchange().answer()
     }
 }
 
@@ -215,7 +215,7 @@ impl Linked for Idle {
 
 impl Linked for Busy {
     fn link(&self) -> Link {
-        self.exchange.link()
+        self.running.exchange().link()
     }
 }
 

@@ -19,7 +19,7 @@ use crate::requests::{hear_answer, write_request};
 use crate::settings::Settings;
 use crate::setup::Setup;
 use activation::Ats;
-use exchange::{Ending, Exchange, Link, NO_CAUSE, Report, Says, Sent, Totals};
+use exchange::{Ending, Exchange, Link, Report, Says, Sent, Totals};
 use frames::{Cause, GREATEST_FRAME, Refusal};
 
 /// What is told of a session without an exchange.
@@ -59,7 +59,7 @@ impl Unwoken {
                 let stage = Asking {
                     setup: self.setup,
                     tries: 0,
-                    why: NO_CAUSE,
+                    why: None,
                 };
                 Ok((stage, sent))
             }
@@ -109,15 +109,18 @@ impl Asking {
         let setup = self.setup;
         if self.tries >= setup.repeats() {
             let outcome = Outcome::Over {
-                ending: Ending::Spent(why),
+                ending: Ending::Spent(Some(why)),
                 report: NO_REPORT,
             };
             return Ok((AfterRats::Failed(Failed { asking: self }), outcome));
         }
         match write_request(setup, out) {
             Ok(sent) => {
-                let tries = self.tries + 1;
-                let stage = Asking { setup, tries, why };
+                let stage = Asking {
+                    setup,
+                    tries: self.tries + 1,
+                    why: Some(why),
+                };
                 Ok((AfterRats::Asking(stage), Outcome::Wrote(sent)))
             }
             Err(refusal) => Err((self, refusal)),
