@@ -1,7 +1,9 @@
 -- Steps of reading and printing digits.
-use Rattle.std.proofs.Common.{◌≡◌, ℕ, zero, suc, ◌+◌, ◌*◌, ◌/◌, ◌%◌, ◌<◌, ◌≤◌, List, [], ◌∷◌, ◌++◌, length, get_or, take, drop, Some, None, Option, sym, refl, ap, ap₂, ◌∙◌, append_assoc, append-nil, arith}
-use Rattle.std.proofs.lemmas.List.{at_drop_more, at_drop_all, take_more}
+use Rattle.std.proofs.Common.{◌≡◌, ℕ, zero, suc, ◌+◌, ◌*◌, ◌/◌, ◌%◌, ◌<◌, ◌≤◌, List, [], ◌∷◌, ◌++◌, length, get_or, set, take, drop, Some, None, Option, sym, refl, ap, ap₂, ◌∙◌, append_assoc, append-nil, length-set, arith}
+use Rattle.std.proofs.lemmas.List.{at_drop_more, at_drop_all, take_more, take_more_set}
+use Rattle.std.proofs.lemmas.Bool.Decides.{nat_tests}
 use Rattle.std.specs.Simd.{first_chunks}
+use Rattle.std.specs.Str.{IsAscii}
 use Rattle.text.specs.Hex.{byte_of, before, unhex, upper, hex}
 
 -- bytes already read, and those that are left
@@ -67,10 +69,28 @@ module _ (pairs : List (List ℕ)) (xs : List ℕ) (i : ℕ) (whole : Option (Li
   pub read_all : length pairs ≤ i → Some xs ≡ whole
   read_all h = ap (λ l. Some l) (sym (append-nil xs)) ∙ ap (follow xs) (sym (at_drop_all bytes_of pairs i h)) ∙ inv
 
--- one byte printed
-hex-append : (xs ys : List ℕ) → hex (xs ++ ys) ≡ hex xs ++ hex ys
+-- Digits printed.
+
+pub hex-append : (xs ys : List ℕ) → hex (xs ++ ys) ≡ hex xs ++ hex ys
 hex-append [] ys = refl
 hex-append (x ∷ xs) ys = ap (λ l. upper (x / 16) ∷ upper (x % 16) ∷ l) (hex-append xs ys)
 
 pub hex_more : (xs : List ℕ) (i : ℕ) → i < length xs → hex (take (i + 1) xs) ≡ hex (take i xs) ++ hex (get_or xs i 0 ∷ [])
 hex_more xs i h = ap hex (take_more xs i 0 h) ∙ hex-append (take i xs) (get_or xs i 0 ∷ [])
+
+pub two_put : (digits : List ℕ) (i a b : ℕ) → 2 * i + 1 < length digits → take (2 * (i + 1)) (set (set digits (2 * i) a) (2 * i + 1) b) ≡ take (2 * i) digits ++ a ∷ b ∷ []
+two_put digits i a b h =
+    let two : 2 * (i + 1) ≡ 2 * i + 1 + 1 = omega arith in
+    ap (λ n. take n (set (set digits (2 * i) a) (2 * i + 1) b)) two
+    ∙ take_more_set (set digits (2 * i) a) (2 * i + 1) b (omega (arith, length-set {A = ℕ}))
+    ∙ ap (λ l. l ++ b ∷ []) (take_more_set digits (2 * i) a (omega arith))
+    ∙ append_assoc (take (2 * i) digits) (a ∷ []) (b ∷ [])
+
+upper_small : (n : ℕ) → n < 16 → upper n < 128
+upper_small n h = grind (arith, nat_tests)
+
+pub IsAscii-hex : (xs : List ℕ) → ((k : ℕ) → get_or xs k 0 < 256) → IsAscii (hex xs)
+IsAscii-hex [] small k = omega arith
+IsAscii-hex (x ∷ xs) small zero = let h : x < 256 = small 0 in upper_small (x / 16) (omega arith)
+IsAscii-hex (x ∷ xs) small (suc zero) = upper_small (x % 16) (omega arith)
+IsAscii-hex (x ∷ xs) small (suc (suc k)) = IsAscii-hex xs (λ j. small (suc j)) k

@@ -1,7 +1,6 @@
 //! Bytes as text: two hexadecimal digits a byte, and `-` for no bytes.
-ghost use Rattle.std.specs.Prelude.{◌≡◌, ◌<◌, [], ◌∷◌, IfSome, Some, vec_items};
-ghost use Rattle.std.specs.Fmt.{WritesOnOk};
-ghost use Rattle.text.specs.Hex.{hex, digit_of, byte_of, unhex, bytes_in, shown_bytes};
+ghost use Rattle.std.specs.Prelude.{◌≡◌, ◌*◌, ◌<◌, ◌≤◌, IfSome, length, Some, take, vec_items, IsUtf8};
+ghost use Rattle.text.specs.Hex.{digit_of, byte_of, unhex, bytes_in, upper, hex, shown_bytes};
 ghost use Rattle.text.specs.Reads.{Reads};
 
 use super::error::ReadError;
@@ -53,10 +52,23 @@ pub fn bytes_in(alloc: Global, field: &[u8]) -> Result<Vec<u8>, ReadError>
     }
 }
 
-fn write_byte<W: fmt::Write>(f: &mut fmt::Formatter<W>, b: u8) -> fmt::Result
-    ensures { WritesOnOk W.write_str_gives f.old result (hex (b ∷ [])) f.new }
+fn upper_digit(n: u8) -> u8
+    requires { n < 16 }
+    ensures { result ≡ upper n }
 {
-    write!(f, "{b:02X}")
+    if n < 10 { b'0' + n } else { b'A' + (n - 10) }
+}
+
+/// The digits of at most 32 bytes.
+fn digits_of<'a>(bytes: &[u8], digits: &'a mut [u8; 64]) -> &'a str
+    requires { length bytes.now ≤ 32 }
+    ensures { result.now ≡ hex bytes.now }
+{
+    for (i, b) in bytes.iter().enumerate() {
+        digits[2 * i] = upper_digit(b / 16);
+        digits[2 * i + 1] = upper_digit(b % 16);
+    }
+    str::from_utf8(&digits[..2 * bytes.len()]).unwrap()
 }
 
 /// Bytes, as they are printed: two digits in upper case for each, and `-` for none.
@@ -70,8 +82,8 @@ impl<'a> fmt::Display for Hex<'a> {
         if self.0.is_empty() {
             return write!(f, "-");
         }
-        for b in self.0 {
-            write_byte(f, *b)?;
+        for part in self.0.chunks(32) {
+            f.write_str(digits_of(part, &mut [0; 64]))?;
         }
         Ok(())
     }
