@@ -1,7 +1,6 @@
-use Rattle.std.proofs.Common.{◌≡◌, ◌/◌, ◌%◌, [], ◌∷◌, length, vec_items, refl, sym, ap, ◌∙◌, arith, rules}
-use Rattle.std.proofs.lemmas.Slice.{pushed}
+use Rattle.std.proofs.Common.{◌≡◌, ◌/◌, ◌%◌, length, vec_items, arith, rules}
 use Rattle.text.specs.Hex.{unhex}
-use Rattle.text.proofs.Hexes.{unhex-pairs, unhex-odd, read_start, read_on, read_none, read_all}
+use Rattle.text.proofs.Hexes.{unhex-odd, read_start, read_on}
 use Rattle.text.proofs.hex.bytes_of_digits.Goals as goal
 
 pub returns-in_default : goal.returns-in_default

@@ -1,4 +1,4 @@
-use Rattle.std.proofs.Common.{◌≡◌, ◌*◌, length, take, sym, ap, ◌∙◌, ap₂, arith, rules}
+use Rattle.std.proofs.Common.{◌≡◌, ◌*◌, length, take, ap, ◌∙◌, arith, rules}
 use Rattle.std.proofs.lemmas.List.{take_all}
 use Rattle.std.proofs.lemmas.Str.{IsUtf8-from_ascii}
 use Rattle.std.specs.Str.{IsUtf8}
@@ -18,6 +18,6 @@ unwrap-requires c =
     let utf8 : IsUtf8 (hex bytes) = IsUtf8-from_ascii (hex bytes) (IsAscii-hex bytes (λ k. (c.type_inv.bytes k).fits)) in
     let done : length bytes ≡ c.loop-i.i = omega arith in
     let text : take (2 * length bytes) c.loop-i.digits ≡ hex bytes =
-        ap (λ k. take (2 * k) c.loop-i.digits) done ∙ c.loop-i.invariant.0 ∙ ap hex (take_all c.loop-i.i bytes (omega arith)) in
+    ap (λ k. take (2 * k) c.loop-i.digits) done ∙ c.loop-i.invariant.0 ∙ ap hex (take_all c.loop-i.i bytes (omega arith)) in
     let put : IsUtf8 (take (2 * length bytes) c.loop-i.digits) = rw text utf8 in
     search rules

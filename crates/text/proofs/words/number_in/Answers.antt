@@ -1,5 +1,4 @@
-use Rattle.std.proofs.Common.{◌≡◌, ℕ, ◌+◌, ◌≤◌, true, false, drop, sym, ◌∙◌, arith, rules}
-use Rattle.text.specs.Words.{count_from, number_in}
+use Rattle.std.proofs.Common.{sym, ◌∙◌, arith}
 use Rattle.text.proofs.Cuts.{number_on, number_none}
 use Rattle.text.proofs.words.number_in.Goals as goal
 

@@ -1,4 +1,4 @@
-use Rattle.std.proofs.Common.{◌≡◌, ◌<◌, ◌∷◌, length, arith, ap, refl, rules, sym, ◌∙◌, false-eqb}
+use Rattle.std.proofs.Common.{◌≡◌, ◌<◌, ◌∷◌, length, arith, ap, refl, rules, sym, ◌∙◌}
 use Rattle.text.specs.Lines.{lines_of}
 use Rattle.text.proofs.Breaks.{first_broken}
 use Rattle.text.proofs.lines.LinesIterator.next.Goals as goal
