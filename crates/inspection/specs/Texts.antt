@@ -1,5 +1,5 @@
 -- What is printed.
-use Rattle.std.specs.Prelude.{ℕ, Bool, true, false, List, [], ◌∷◌, Ok, Err, codes, decimal, Result}
+use Rattle.std.specs.Prelude.{ℕ, Bool, true, false, List, [], ◌∷◌, ◌++◌, Ok, Err, codes, decimal, Result}
 use Rattle.frames.specs.declared.Refusal.{Refusal}
 use Rattle.frames.specs.Blocks.{Cid, without, numbered, Block, i_block, r_block, deselect, wait}
 use Rattle.frames.specs.Causes.{Layer, frame, activation, block, Cause}
@@ -74,6 +74,10 @@ times_text a = decimal a.fwi then decimal a.sfgi then hex (a.tc ∷ []) then sho
 abbrev pub ats_text : AtsRead → List ℕ
 ats_text (good a) = codes "ats" then codes "0" then offer_text a then times_text a
 ats_text (bad why) = codes "ats" then cause_text why
+
+-- the line of an ATS
+abbrev pub ats_line : AtsRead → List ℕ
+ats_line a = ats_text a ++ (10 ∷ [])
 
 -- a task's answer; a frame is sealed into a buffer of the greatest frame
 abbrev pub task_text : Task → List ℕ

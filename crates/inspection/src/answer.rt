@@ -1,104 +1,95 @@
 //! The answer to a job.
-ghost use Rattle.std.specs.Prelude.{◌≡◌, ◌≤◌, ◌++◌, length, take, is_some, IfOk, OnOk};
-ghost use Rattle.frames.specs.Faults.{cause_seen};
-ghost use Rattle.frames.specs.Reading.{valid, invalid};
-ghost use Rattle.frames.specs.Views.{agreement, block_seen};
+ghost use Rattle.std.specs.Prelude.{◌≡◌, ◌≤◌, Some, ◌++◌, OnOk, string_bytes};
+ghost use Rattle.frames.specs.Sizes.{size_of, greatest_code};
+ghost use Rattle.frames.specs.Views.{agreement};
+ghost use Rattle.activation.specs.Ats.{good};
+ghost use Rattle.activation.specs.Laws.{ValidAts};
+ghost use Rattle.activation.specs.Views.{said_by};
 ghost use Rattle.inspection.specs.Jobs.{task_seen};
 ghost use Rattle.inspection.specs.Lines.{line_text};
-ghost use Rattle.inspection.specs.Tasks.{sealing, reading, task_of};
-ghost use Rattle.inspection.specs.Texts.{read_text, sealed_text, refused_text, task_text};
+ghost use Rattle.inspection.specs.Tasks.{sealing, reading, hearing};
+ghost use Rattle.inspection.specs.Texts.{ats_line};
 
-use super::hearing::push_hearing;
-use super::job::{Job, job_of};
-use super::printing::{push_block, push_cause};
-use frames::{Agreed, Block, Cause, GREATEST_FRAME, Refusal, read_block, seal};
-use std::alloc::{AllocError, Global};
-use text::{push_bytes, push_field, push_number_field};
+use super::job::Job;
+use super::printing::{BlockText, CauseText};
+use activation::{Ats, hear_ats, size_of_code};
+use frames::{Agreed, GREATEST_FRAME, read_block, seal};
+use std::alloc::AllocError;
+use std::fmt::Write;
+use text::Hex;
 
-fn push_valid(out: &mut Vec<u8>, block: Block<'_>) -> Result<(), AllocError>
-    ensures { OnOk result (out.new.items ≡ out.old.items ++ read_text (valid (block_seen block.entry))) }
+/// Appends what sealing a body gives.
+fn push_sealing(out: &mut String, body: &[u8]) -> Result<(), AllocError>
+    ensures { OnOk result (string_bytes out.new ≡ string_bytes out.old ++ line_text (Some (sealing body.now))) }
 {
-    push_field(out, b"read")?;
-    push_field(out, b"0")?;
-    push_block(out, block)
-}
-
-fn push_invalid(out: &mut Vec<u8>, cause: Cause) -> Result<(), AllocError>
-    ensures { OnOk result (out.new.items ≡ out.old.items ++ read_text (invalid (cause_seen cause))) }
-{
-    push_field(out, b"read")?;
-    push_cause(out, cause)
+    let mut buffer = [0u8; GREATEST_FRAME];
+    match seal(body, &mut buffer) {
+        Ok(n) => writeln!(out, "seal 0 {}", Hex(&buffer[..n])),
+        Err(refusal) => writeln!(out, "seal {} -", refusal.number()),
+    }
 }
 
 /// Appends what reading a frame gives.
 fn push_reading(
-    out: &mut Vec<u8>,
+    out: &mut String,
     limit: usize,
     agreed: Agreed,
     frame: &[u8],
 ) -> Result<(), AllocError>
-    ensures { OnOk result (out.new.items ≡ out.old.items ++ task_text (reading limit (agreement agreed) frame.now)) }
+    ensures { OnOk result (string_bytes out.new ≡ string_bytes out.old ++ line_text (Some (reading limit (agreement agreed) frame.now))) }
 {
     match read_block(frame, limit, agreed) {
-        Ok(block) => push_valid(out, block),
-        Err(fault) => push_invalid(out, fault.cause()),
+        Ok(block) => writeln!(out, "read 0 {}", BlockText(block)),
+        Err(fault) => writeln!(out, "read {}", CauseText(fault.cause())),
     }
 }
 
-/// Appends the frame that is the first `n` bytes of a buffer.
-fn push_sealed(out: &mut Vec<u8>, buffer: &[u8], n: usize) -> Result<(), AllocError>
-    requires { n ≤ length buffer.now }
-    ensures { OnOk result (out.new.items ≡ out.old.items ++ sealed_text (take n buffer.now)) }
+/// The card's frame size.
+fn card_size(fsci: u8) -> usize
+    requires { fsci ≤ greatest_code }
+    ensures { result ≡ size_of fsci }
 {
-    push_field(out, b"seal")?;
-    push_field(out, b"0")?;
-    push_bytes(out, &buffer[0..n])
+    size_of_code(fsci).unwrap()
 }
 
-fn push_refused(out: &mut Vec<u8>, refusal: Refusal) -> Result<(), AllocError>
-    ensures { OnOk result (out.new.items ≡ out.old.items ++ refused_text refusal) }
+/// Appends what an ATS says: the card's frame size, TA, waiting time, guard time, TC and the historical bytes.
+fn push_ats(out: &mut String, ats: Ats<'_>) -> Result<(), AllocError>
+    requires { ValidAts (said_by ats) }
+    ensures { OnOk result (string_bytes out.new ≡ string_bytes out.old ++ ats_line (good (said_by ats.entry))) }
 {
-    push_field(out, b"seal")?;
-    push_number_field(out, refusal.number() as usize)?;
-    out.extend_from_slice(b"-")
+    writeln!(
+        out,
+        "ats 0 {} {} {} {} {} {}",
+        card_size(ats.fsci),
+        Hex(&[ats.ta]),
+        ats.fwi,
+        ats.sfgi,
+        Hex(&[ats.tc]),
+        Hex(ats.historical)
+    )
 }
 
-/// Appends what sealing a body gives.
-fn push_sealing(out: &mut Vec<u8>, body: &[u8]) -> Result<(), AllocError>
-    ensures { OnOk result (out.new.items ≡ out.old.items ++ task_text (sealing body.now)) }
+/// Appends what a frame is heard as, at a reader of this frame size.
+fn push_hearing(out: &mut String, fsd: usize, frame: &[u8]) -> Result<(), AllocError>
+    ensures { OnOk result (string_bytes out.new ≡ string_bytes out.old ++ line_text (Some (hearing fsd frame.now))) }
 {
-    let mut buffer = [0u8; GREATEST_FRAME];
-    match seal(body, &mut buffer) {
-        Ok(n) => push_sealed(out, &buffer, n),
-        Err(refusal) => push_refused(out, refusal),
+    match hear_ats(frame, fsd) {
+        Ok(ats) => push_ats(out, ats),
+        Err(fault) => writeln!(out, "ats {}", CauseText(fault.cause())),
     }
 }
 
-/// Appends the answer to a job.
-fn push_answer(out: &mut Vec<u8>, job: Job) -> Result<(), AllocError>
-    ensures { OnOk result (out.new.items ≡ out.old.items ++ task_text (task_seen job)) }
+/// Appends the answer to a job, a line.
+pub fn push_answer(out: &mut String, job: &Job) -> Result<(), AllocError>
+    ensures { OnOk result (string_bytes out.new ≡ string_bytes out.old ++ line_text (Some (task_seen job.now))) }
 {
     match job {
-        Job::Seal { body } => push_sealing(out, body.as_slice()),
+        Job::Seal { body } => push_sealing(out, body),
         Job::Read {
             limit,
             agreed,
             frame,
-        } => push_reading(out, limit, agreed, frame.as_slice()),
-        Job::Ats { fsd, frame } => push_hearing(out, fsd, frame.as_slice()),
-    }
-}
-
-/// Appends the answer to a line, with a line break, and says whether the line could be read; nothing is appended if it could not.
-pub fn push_line(heap: Global, out: &mut Vec<u8>, line: &[u8]) -> Result<bool, AllocError>
-    ensures { IfOk result (λ ok. (ok ≡ is_some (task_of line.now)) × (out.new.items ≡ out.old.items ++ line_text (task_of line.now))) }
-{
-    match job_of(heap, line)? {
-        Some(job) => {
-            push_answer(out, job)?;
-            out.push(b'\n')?;
-            Ok(true)
-        }
-        None => Ok(false),
+        } => push_reading(out, *limit, *agreed, frame),
+        Job::Ats { fsd, frame } => push_hearing(out, *fsd, frame),
     }
 }

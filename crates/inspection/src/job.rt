@@ -1,15 +1,15 @@
 //! The job that a line asks for.
-ghost use Rattle.std.specs.Prelude.{◌≡◌, IfOk};
 ghost use Rattle.std.specs.Option.{option_map};
 ghost use Rattle.text.specs.Hex.{bytes_in};
+ghost use Rattle.text.specs.Reads.{Reads};
+ghost use Rattle.text.specs.Words.{cut_of};
 ghost use Rattle.inspection.specs.Jobs.{task_seen};
 ghost use Rattle.inspection.specs.Tasks.{sealing, task_of, with_limit, with_fsd};
-ghost use Rattle.text.specs.Words.{cut_of};
 
 use super::words::{card_in, limit_in};
 use frames::Agreed;
-use std::alloc::{AllocError, Global};
-use text::{bytes_in, cut};
+use std::alloc::Global;
+use text::{ReadError, bytes_in, cut};
 
 #[derive(Drop)]
 pub enum Job {
@@ -28,68 +28,48 @@ pub enum Job {
 }
 
 /// BODY
-fn seal_job(heap: Global, field: &[u8]) -> Result<Option<Job>, AllocError>
-    ensures { IfOk result (λ o. option_map task_seen o ≡ option_map (λ b. sealing b) (bytes_in field.now)) }
+fn seal_job(alloc: Global, field: &[u8]) -> Result<Job, ReadError>
+    ensures { Reads task_seen (option_map (λ b. sealing b) (bytes_in field.now)) result }
 {
-    match bytes_in(heap, field)? {
-        Some(body) => Ok(Some(Job::Seal { body })),
-        None => Ok(None),
-    }
+    let body = bytes_in(alloc, field)?;
+    Ok(Job::Seal { body })
 }
 
 /// LIMIT CARD FRAME
-fn read_job(heap: Global, fields: &[u8]) -> Result<Option<Job>, AllocError>
-    ensures { IfOk result (λ o. option_map task_seen o ≡ with_limit (cut_of fields.now)) }
+fn read_job(alloc: Global, fields: &[u8]) -> Result<Job, ReadError>
+    ensures { Reads task_seen (with_limit (cut_of fields.now)) result }
 {
-    let Some((limit, rest)) = cut(fields) else {
-        return Ok(None);
-    };
-    let Some(limit) = limit_in(limit) else {
-        return Ok(None);
-    };
-    let Some((card, frame)) = cut(rest) else {
-        return Ok(None);
-    };
-    let Some(agreed) = card_in(card) else {
-        return Ok(None);
-    };
-    match bytes_in(heap, frame)? {
-        Some(frame) => Ok(Some(Job::Read {
-            limit,
-            agreed,
-            frame,
-        })),
-        None => Ok(None),
-    }
+    let (limit, rest) = cut(fields).ok_or(ReadError::Unreadable)?;
+    let limit = limit_in(limit).ok_or(ReadError::Unreadable)?;
+    let (card, frame) = cut(rest).ok_or(ReadError::Unreadable)?;
+    let agreed = card_in(card).ok_or(ReadError::Unreadable)?;
+    let frame = bytes_in(alloc, frame)?;
+    Ok(Job::Read {
+        limit,
+        agreed,
+        frame,
+    })
 }
 
 /// FSD FRAME
-fn ats_job(heap: Global, fields: &[u8]) -> Result<Option<Job>, AllocError>
-    ensures { IfOk result (λ o. option_map task_seen o ≡ with_fsd (cut_of fields.now)) }
+fn ats_job(alloc: Global, fields: &[u8]) -> Result<Job, ReadError>
+    ensures { Reads task_seen (with_fsd (cut_of fields.now)) result }
 {
-    let Some((fsd, frame)) = cut(fields) else {
-        return Ok(None);
-    };
-    let Some(fsd) = limit_in(fsd) else {
-        return Ok(None);
-    };
-    match bytes_in(heap, frame)? {
-        Some(frame) => Ok(Some(Job::Ats { fsd, frame })),
-        None => Ok(None),
-    }
+    let (fsd, frame) = cut(fields).ok_or(ReadError::Unreadable)?;
+    let fsd = limit_in(fsd).ok_or(ReadError::Unreadable)?;
+    let frame = bytes_in(alloc, frame)?;
+    Ok(Job::Ats { fsd, frame })
 }
 
 /// The job that `line` asks for, if it can be read.
-pub fn job_of(heap: Global, line: &[u8]) -> Result<Option<Job>, AllocError>
-    ensures { IfOk result (λ o. option_map task_seen o ≡ task_of line.now) }
+pub fn job_of(alloc: Global, line: &[u8]) -> Result<Job, ReadError>
+    ensures { Reads task_seen (task_of line.now) result }
 {
-    let Some((word, rest)) = cut(line) else {
-        return Ok(None);
-    };
+    let (word, rest) = cut(line).ok_or(ReadError::Unreadable)?;
     match word {
-        b"seal" => seal_job(heap, rest),
-        b"read" => read_job(heap, rest),
-        b"ats" => ats_job(heap, rest),
-        _ => Ok(None),
+        b"seal" => seal_job(alloc, rest),
+        b"read" => read_job(alloc, rest),
+        b"ats" => ats_job(alloc, rest),
+        _ => Err(ReadError::Unreadable),
     }
 }

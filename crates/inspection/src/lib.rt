@@ -2,7 +2,6 @@
 #![tactic(auto)]
 
 mod answer;
-mod hearing;
 mod job;
 mod lines;
 mod printing;

@@ -1,24 +1,23 @@
 //! Input, line by line.
-ghost use Rattle.std.specs.Prelude.{◌≡◌, ◌<◌, ◌++◌, OnOk};
+ghost use Rattle.std.specs.Prelude.{◌≡◌, ◌++◌, OnOk, string_bytes};
 ghost use Rattle.inspection.specs.Lines.{output};
 
-use super::answer::push_line;
+use super::answer::push_answer;
+use super::job::job_of;
 use std::alloc::{AllocError, Global};
-use text::{first_line, push_bad};
+use std::fmt::Write;
+use text::{BadLine, Lines, ReadError};
 
 /// Appends an answer for each line of `input`, up to one that cannot be read.
-pub fn push_output(heap: Global, out: &mut Vec<u8>, input: &[u8]) -> Result<(), AllocError>
-    ensures { OnOk result (out.new.items ≡ out.old.items ++ output input.now) }
+pub fn push_output(alloc: Global, out: &mut String, input: &[u8]) -> Result<(), AllocError>
+    ensures { OnOk result (string_bytes out.new ≡ string_bytes out.old ++ output input.now) }
 {
-    let mut rest = input;
-    let mut read: usize = 0;
-    while !rest.is_empty() {
-        let (line, after) = first_line(rest);
-        read += 1;
-        if !push_line(heap, out, line)? {
-            return push_bad(out, read);
+    for (i, line) in Lines::new(input).enumerate() {
+        match job_of(alloc, line) {
+            Ok(job) => push_answer(out, &job)?,
+            Err(ReadError::Unreadable) => return write!(out, "{}", BadLine(i + 1)),
+            Err(ReadError::OutOfMemory(error)) => return Err(error),
         }
-        rest = after;
     }
     Ok(())
 }

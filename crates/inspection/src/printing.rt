@@ -1,137 +1,110 @@
-//! What is printed.
-ghost use Rattle.std.specs.Prelude.{◌≡◌, ◌++◌, OnOk};
-ghost use Rattle.frames.specs.Blocks.{i_block, deselect, wait};
+//! What is printed of a block and of a cause.
+ghost use Rattle.std.specs.Prelude.{◌≡◌, Some};
 ghost use Rattle.frames.specs.Faults.{layer_seen, cause_seen};
 ghost use Rattle.frames.specs.Views.{cid_seen, block_seen};
-ghost use Rattle.inspection.specs.Texts.{bit_text, chaining_text, nak_text, card_text, layer_text, block_text, cause_text, numbered_text};
+ghost use Rattle.inspection.specs.Texts.{bit_text, chaining_text, nak_text, card_text, layer_text, block_text, cause_text};
 
 use frames::{Block, CardNumber, Cause, Layer, information_place};
-use std::alloc::AllocError;
-use text::{push_bytes, push_field, push_number, push_number_field};
+use std::fmt;
+use text::Hex;
 
-fn bit_text(bit: bool) -> &'static [u8]
+fn bit_text(bit: bool) -> &'static str
     ensures { result.now ≡ bit_text bit }
 {
-    if bit { b"1" } else { b"0" }
+    if bit { "1" } else { "0" }
 }
 
-fn chaining_text(chaining: bool) -> &'static [u8]
+fn chaining_text(chaining: bool) -> &'static str
     ensures { result.now ≡ chaining_text chaining }
 {
-    if chaining { b"chaining" } else { b"last" }
+    if chaining { "chaining" } else { "last" }
 }
 
-fn nak_text(nak: bool) -> &'static [u8]
+fn nak_text(nak: bool) -> &'static str
     ensures { result.now ≡ nak_text nak }
 {
-    if nak { b"NAK" } else { b"ACK" }
+    if nak { "NAK" } else { "ACK" }
 }
 
-fn layer_text(layer: Layer) -> &'static [u8]
+fn layer_text(layer: Layer) -> &'static str
     ensures { result.now ≡ layer_text (layer_seen layer) }
 {
     match layer {
-        Layer::Frame => b"frame",
-        Layer::Activation => b"activation",
-        Layer::Block => b"block",
+        Layer::Frame => "frame",
+        Layer::Activation => "activation",
+        Layer::Block => "block",
     }
 }
 
-/// Appends a card number and its power level.
-fn push_card(out: &mut Vec<u8>, card: Option<CardNumber>) -> Result<(), AllocError>
-    ensures { OnOk result (out.new.items ≡ out.old.items ++ card_text (cid_seen card)) }
-{
-    match card {
-        Some(c) => {
-            push_number_field(out, c.number as usize)?;
-            push_number(out, c.power as usize)
+/// A card number and its power level.
+#[derive(Clone, Copy)]
+struct CardText(Option<CardNumber>);
+
+impl fmt::Display for CardText {
+    ghost output = { λ c. Some (card_text (cid_seen c.0)) };
+
+    fn fmt<W: fmt::Write>(&self, f: &mut fmt::Formatter<W>) -> fmt::Result {
+        match self.0 {
+            Some(card) => write!(f, "{} {}", card.number, card.power),
+            None => write!(f, "- -"),
         }
-        None => out.extend_from_slice(b"- -"),
     }
 }
 
-/// Appends what I-blocks and R-blocks have: a letter, the block number, a word and the card number.
-fn push_numbered(
-    out: &mut Vec<u8>,
-    letter: &[u8],
-    number: bool,
-    word: &[u8],
-    card: Option<CardNumber>,
-) -> Result<(), AllocError>
-    ensures { OnOk result (out.new.items ≡ out.old.items ++ numbered_text letter.now number word.now (cid_seen card)) }
-{
-    push_field(out, letter)?;
-    push_field(out, bit_text(number))?;
-    push_field(out, word)?;
-    push_card(out, card)
+/// What a block is.
+#[derive(Clone, Copy)]
+pub struct BlockText<'a>(pub Block<'a>);
+
+impl<'a> fmt::Display for BlockText<'a> {
+    ghost output = { λ b. Some (block_text (block_seen b.0)) };
+
+    fn fmt<W: fmt::Write>(&self, f: &mut fmt::Formatter<W>) -> fmt::Result {
+        match self.0 {
+            Block::I {
+                chaining,
+                number,
+                card,
+                information,
+                ..
+            } => write!(
+                f,
+                "I {} {} {} {} {}",
+                bit_text(number),
+                chaining_text(chaining),
+                CardText(card),
+                information_place(card),
+                Hex(information)
+            ),
+            Block::R { nak, number, card } => write!(
+                f,
+                "R {} {} {}",
+                bit_text(number),
+                nak_text(nak),
+                CardText(card)
+            ),
+            Block::Deselect { card } => write!(f, "DESELECT {}", CardText(card)),
+            Block::Wait {
+                multiplier,
+                power,
+                card,
+            } => write!(f, "WTX {multiplier} {power} {}", CardText(card)),
+        }
+    }
 }
 
-/// Appends what an I-block is.
-fn push_information(
-    out: &mut Vec<u8>,
-    chaining: bool,
-    number: bool,
-    card: Option<CardNumber>,
-    information: &[u8],
-) -> Result<(), AllocError>
-    ensures { OnOk result (out.new.items ≡ out.old.items ++ block_text (i_block chaining number (cid_seen card) information.now)) }
-{
-    push_numbered(out, b"I", number, chaining_text(chaining), card)?;
-    out.push(b' ')?;
-    push_number_field(out, information_place(card))?;
-    push_bytes(out, information)
-}
+/// A cause: number, place and layer.
+#[derive(Clone, Copy)]
+pub struct CauseText(pub Cause);
 
-/// Appends what a wait block is.
-fn push_wait(
-    out: &mut Vec<u8>,
-    multiplier: u8,
-    power: u8,
-    card: Option<CardNumber>,
-) -> Result<(), AllocError>
-    ensures { OnOk result (out.new.items ≡ out.old.items ++ block_text (wait multiplier power (cid_seen card))) }
-{
-    push_field(out, b"WTX")?;
-    push_number_field(out, multiplier as usize)?;
-    push_number_field(out, power as usize)?;
-    push_card(out, card)
-}
+impl fmt::Display for CauseText {
+    ghost output = { λ c. Some (cause_text (cause_seen c.0)) };
 
-/// Appends what a deselect block is.
-fn push_deselect(out: &mut Vec<u8>, card: Option<CardNumber>) -> Result<(), AllocError>
-    ensures { OnOk result (out.new.items ≡ out.old.items ++ block_text (deselect (cid_seen card))) }
-{
-    push_field(out, b"DESELECT")?;
-    push_card(out, card)
-}
-
-/// Appends what a block is.
-pub fn push_block(out: &mut Vec<u8>, block: Block<'_>) -> Result<(), AllocError>
-    ensures { OnOk result (out.new.items ≡ out.old.items ++ block_text (block_seen block.entry)) }
-{
-    match block {
-        Block::I {
-            chaining,
+    fn fmt<W: fmt::Write>(&self, f: &mut fmt::Formatter<W>) -> fmt::Result {
+        let Cause {
             number,
-            card,
-            information,
-            ..
-        } => push_information(out, chaining, number, card, information),
-        Block::R { nak, number, card } => push_numbered(out, b"R", number, nak_text(nak), card),
-        Block::Deselect { card } => push_deselect(out, card),
-        Block::Wait {
-            multiplier,
-            power,
-            card,
-        } => push_wait(out, multiplier, power, card),
+            place,
+            layer,
+        } = self.0;
+        write!(f, "{number} {place} {}", layer_text(layer))
     }
-}
-
-/// Appends a cause: number, place and layer.
-pub fn push_cause(out: &mut Vec<u8>, cause: Cause) -> Result<(), AllocError>
-    ensures { OnOk result (out.new.items ≡ out.old.items ++ cause_text (cause_seen cause)) }
-{
-    push_number_field(out, cause.number as usize)?;
-    push_number_field(out, cause.place)?;
-    out.extend_from_slice(layer_text(cause.layer))
 }

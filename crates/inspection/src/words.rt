@@ -10,12 +10,10 @@ use frames::{Agreed, GREATEST_FRAME};
 fn number_in(field: &[u8]) -> Option<usize>
     ensures { result ≡ number_in field.now }
 {
-    match text::number_in(field) {
-        Some(n) => Some(n.min(1000)),
-        None => None,
-    }
+    text::number_in(field).map(|n| n.min(1000))
 }
 
+/// A frame size.
 pub fn limit_in(field: &[u8]) -> Option<usize>
     ensures { result ≡ limit_in field.now }
 {
@@ -25,6 +23,7 @@ pub fn limit_in(field: &[u8]) -> Option<usize>
     }
 }
 
+/// A card number, or a dash for none.
 pub fn card_in(field: &[u8]) -> Option<Agreed>
     ensures { option_map agreement result ≡ card_in field.now }
 {

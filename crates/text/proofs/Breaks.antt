@@ -1,52 +1,48 @@
--- Steps of cutting a text into lines.
-use Rattle.std.proofs.Common.{◌≡◌, ℕ, ◌+◌, ◌-◌, ◌<◌, ◌≤◌, cond, eqb, List, [], ◌∷◌, ◌++◌, length, get_or, take, drop, sym, refl, ap, ◌∙◌, ap₂, arith}
-use Rattle.std.proofs.lemmas.List.{at_drop_more, at_drop_all, take_more, take_all, take_rest, drop_all}
-use Rattle.std.proofs.lemmas.Bool.{eq-eqb, ne_eqb}
+-- The first line of a text, and what stands behind it.
+use Rattle.std.proofs.Common.{◌≡◌, ℕ, ◌+◌, ◌<◌, ◌≤◌, Bool, true, false, cond, eqb, List, [], ◌∷◌, length, Some, None, Option, sym, refl, ap, ap₂, ◌∙◌, arith}
+use Rattle.std.specs.Borrow.{Bor}
+use Rattle.std.specs.Option.{unwrap_or}
 use Rattle.text.specs.Lines.{prepend, lines_of}
+use Rattle.text.specs.WordViews.{cut_seen}
+use Rattle.text.specs.Words.{Cut, longer, cut_at}
 
--- characters in front of the first line
-abbrev pub onto : List ℕ → List (List ℕ) → List (List ℕ)
-onto [] ls = ls
-onto (c ∷ cs) ls = prepend c (onto cs ls)
+-- the lines of a text that is cut at its first line break, or has none
+abbrev broken : List ℕ → Option Cut → List (List ℕ)
+broken text None = text ∷ []
+broken text (Some k) = k.first ∷ lines_of k.rest
 
-onto_more : (xs : List ℕ) (c : ℕ) (ls : List (List ℕ)) → onto (xs ++ c ∷ []) ls ≡ onto xs (prepend c ls)
-onto_more [] c ls = refl
-onto_more (x ∷ xs) c ls = ap (prepend x) (onto_more xs c ls)
+longer_broken : (c : ℕ) (cs : List ℕ) (o : Option Cut) → prepend c (broken cs o) ≡ broken (c ∷ cs) (longer c o)
+longer_broken c cs None = refl
+longer_broken c cs (Some k) = refl
 
-onto_line : (xs : List ℕ) (ls : List (List ℕ)) → onto xs ([] ∷ ls) ≡ xs ∷ ls
-onto_line [] ls = refl
-onto_line (x ∷ xs) ls = ap (prepend x) (onto_line xs ls)
+either_broken : (c : ℕ) (cs : List ℕ) (b : Bool) (o : Option Cut) (ls : List (List ℕ)) → prepend c ls ≡ broken (c ∷ cs) (longer c o) → cond b ([] ∷ lines_of cs) (prepend c ls) ≡ broken (c ∷ cs) (cond b (Some (record { first = []; rest = cs })) (longer c o))
+either_broken c cs true o ls e = refl
+either_broken c cs false o ls e = e
 
-onto_last : (xs : List ℕ) → 0 < length xs → onto xs [] ≡ xs ∷ []
-onto_last [] h = absurd (omega arith)
-onto_last (x ∷ []) h = refl
-onto_last (x ∷ y ∷ xs) h = ap (prepend x) (onto_last (y ∷ xs) (omega arith))
+lines_of-cut : (text : List ℕ) → 0 < length text → lines_of text ≡ broken text (cut_at 10 text)
+lines_of-cut [] h = absurd (omega arith)
+lines_of-cut (c ∷ []) h = either_broken c [] (eqb c 10) None [] refl
+lines_of-cut (c ∷ d ∷ cs) h =
+    either_broken c (d ∷ cs) (eqb c 10) (cut_at 10 (d ∷ cs)) (lines_of (d ∷ cs))
+    (ap (prepend c) (lines_of-cut (d ∷ cs) (omega arith)) ∙ longer_broken c (d ∷ cs) (cut_at 10 (d ∷ cs)))
 
-module _ (text : List ℕ) (i : ℕ) (inv : onto (take i text) (lines_of (drop i text)) ≡ lines_of text) where
-  abbrev at : ℕ
-  at = get_or text i 0
+-- the first line and what stands behind it, where a cut was tried
+pub first_broken : (text : List ℕ) (r : Option (Bor (List ℕ) × Bor (List ℕ))) (d x : Bor (List ℕ) × Bor (List ℕ)) → 0 < length text → cut_seen r ≡ cut_at 10 text → d.0.now ≡ text → d.1.now ≡ [] → x ≡ unwrap_or r d → lines_of text ≡ x.0.now ∷ lines_of x.1.now
+first_broken text None d x h e whole none is =
+    lines_of-cut text h ∙ ap (broken text) (sym e) ∙ ap₂ (λ l m. l ∷ lines_of m) (sym whole) (sym none)
+    ∙ ap (λ y. y.0.now ∷ lines_of y.1.now) (sym is)
+first_broken text (Some p) d x h e whole none is =
+    lines_of-cut text h ∙ ap (broken text) (sym e) ∙ ap (λ y. y.0.now ∷ lines_of y.1.now) (sym is)
 
-  abbrev rest : List (List ℕ)
-  rest = lines_of (drop (i + 1) text)
+length-prepend : (c : ℕ) (ls : List (List ℕ)) → length (prepend c ls) ≤ length ls + 1
+length-prepend c [] = omega arith
+length-prepend c (l ∷ ls) = omega arith
 
-  after : i < length text → lines_of (drop i text) ≡ cond (eqb at 10) ([] ∷ rest) (prepend at rest)
-  after h = at_drop_more lines_of text i 0 h
+no_longer : (c : ℕ) (ls : List (List ℕ)) (n : ℕ) (b : Bool) → length ls ≤ n → length (cond b ([] ∷ ls) (prepend c ls)) ≤ n + 1
+no_longer c ls n true h = omega arith
+no_longer c ls n false h = omega (arith, length-prepend c ls)
 
-  pub break_on : i < length text → (at ≡ 10 → ⊥) → onto (take (i + 1) text) rest ≡ lines_of text
-  break_on h ne =
-      ap (λ l. onto l rest) (take_more text i 0 h) ∙ onto_more (take i text) at rest
-      ∙ ap (λ t. onto (take i text) (cond t ([] ∷ rest) (prepend at rest))) (sym (ne_eqb at 10 ne))
-      ∙ ap (onto (take i text)) (sym (after h)) ∙ inv
-
-  pub break_here : i < length text → at ≡ 10 → lines_of text ≡ take (i - 0) text ∷ lines_of (take (length text - (i + 1)) (drop (i + 1) text))
-  break_here h is =
-      sym inv ∙ ap (onto (take i text)) (after h)
-      ∙ ap (λ t. onto (take i text) (cond t ([] ∷ rest) (prepend at rest))) (eq-eqb at 10 is)
-      ∙ onto_line (take i text) rest
-      ∙ ap₂ (λ l m. l ∷ lines_of m) (ap (λ k. take k text) (let e : i ≡ i - 0 = omega arith in e)) (sym (take_rest text (i + 1)))
-
-  pub break_none : length text ≤ i → 0 < length text → lines_of text ≡ text ∷ lines_of (take (length text - length text) (drop (length text) text))
-  break_none h some =
-      sym inv ∙ ap (onto (take i text)) (at_drop_all lines_of text i h) ∙ ap (λ l. onto l []) (take_all i text h)
-      ∙ onto_last text some
-      ∙ ap (λ l. text ∷ lines_of l) (sym (take_rest text (length text) ∙ drop_all (length text) text (omega arith)))
+-- there are no more lines than characters
+pub length-lines_of : (text : List ℕ) → length (lines_of text) ≤ length text
+length-lines_of [] = omega arith
+length-lines_of (c ∷ cs) = let h = no_longer c (lines_of cs) (length cs) (eqb c 10) (length-lines_of cs) in omega (arith, h)

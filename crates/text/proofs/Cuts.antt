@@ -1,51 +1,48 @@
--- Steps of cutting a line, and of reading a number.
-use Rattle.std.proofs.Common.{◌≡◌, ℕ, ◌+◌, ◌-◌, ◌<◌, ◌≤◌, true, false, cond, eqb, List, [], ◌∷◌, ◌++◌, length, get_or, take, drop, Some, None, Option, sym, refl, ap, ◌∙◌, ap₂, append_assoc, append-nil, arith}
-use Rattle.std.proofs.lemmas.List.{at_drop_more, at_drop_all, take_more, take_rest}
-use Rattle.std.proofs.lemmas.Bool.{eq-eqb, ne_eqb}
+-- Cutting at a mark, and reading a number.
+use Rattle.std.proofs.Common.{◌≡◌, ℕ, suc, ◌+◌, ◌-◌, ◌<◌, ◌≤◌, Bool, true, false, not, cond, eqb, ltb, List, [], ◌∷◌, length, get_or, take, drop, Some, None, Option, sym, refl, ap, ◌∙◌, add-one, arith}
+use Rattle.std.proofs.lemmas.Bool.Decides.{nat_tests}
+use Rattle.std.specs.List.{position, position_or_len}
+use Rattle.std.proofs.lemmas.List.{at_drop_more, at_drop_all, take_rest}
 use Rattle.text.specs.Hex.{among}
-use Rattle.text.specs.Words.{Cut, longer, cut_of, count_from, digit_on, number_in}
+use Rattle.text.specs.Words.{Cut, longer, cut_at, count_from, digit_on, number_in}
 
 abbrev pub made : List ℕ → List ℕ → Option Cut
 made a b = Some (record { first = a; rest = b })
 
--- a cut of what is left, with what was passed in front
-abbrev pub behind : List ℕ → Option Cut → Option Cut
-behind xs None = None
-behind xs (Some k) = made (xs ++ k.first) k.rest
+-- a cut at a place, if there is one
+abbrev pub cut_by : List ℕ → Option ℕ → Option Cut
+cut_by xs None = None
+cut_by xs (Some i) = made (take i xs) (drop (i + 1) xs)
 
-behind_more : (xs : List ℕ) (c : ℕ) (o : Option Cut) → behind (xs ++ c ∷ []) o ≡ behind xs (longer c o)
-behind_more xs c None = refl
-behind_more xs c (Some k) = ap (λ l. made l k.rest) (append_assoc xs (c ∷ []) k.first)
+later : (c : ℕ) (cs : List ℕ) (p : ℕ) (b : Bool) → longer c (cut_by cs (cond b (Some p) None)) ≡ cut_by (c ∷ cs) (cond b (Some (suc p)) None)
+later c cs p true = simp add-one
+later c cs p false = refl
 
-pub cut_start : (line : List ℕ) → behind (take 0 line) (cut_of (drop 0 line)) ≡ cut_of line
-cut_start line = same (cut_of line)
-  where
-    same : (o : Option Cut) → behind [] o ≡ o
-    same None = refl
-    same (Some k) = refl
+same_test : (p n : ℕ) → ltb p n ≡ ltb (suc p) (suc n)
+same_test p n = grind (arith, nat_tests)
 
-module _ (line : List ℕ) (i : ℕ) (inv : behind (take i line) (cut_of (drop i line)) ≡ cut_of line) where
-  abbrev at : ℕ
-  at = get_or line i 0
+zero_first : (n : ℕ) → true ≡ ltb 0 (suc n)
+zero_first n = grind (arith, nat_tests)
 
-  after : i < length line → cut_of (drop i line) ≡ cond (eqb at 32) (made [] (drop (i + 1) line)) (longer at (cut_of (drop (i + 1) line)))
-  after h = at_drop_more cut_of line i 0 h
+-- where the first element is the mark, or is not
+here : (c : ℕ) (cs : List ℕ) (p : ℕ) (o : Option Cut) (b : Bool) → o ≡ cut_by cs (cond (ltb p (length cs)) (Some p) None) → cond b (made [] cs) (longer c o) ≡ cut_by (c ∷ cs) (cond (ltb (cond (not b) (1 + p) 0) (length (c ∷ cs))) (Some (cond (not b) (1 + p) 0)) None)
+here c cs p o true e = ap (λ t. cut_by (c ∷ cs) (cond t (Some 0) None)) (zero_first (length cs))
+here c cs p o false e =
+    let one : suc p ≡ 1 + p = omega arith in
+    ap (longer c) e ∙ later c cs p (ltb p (length cs))
+    ∙ ap (λ t. cut_by (c ∷ cs) (cond t (Some (suc p)) None)) (same_test p (length cs))
+    ∙ ap (λ k. cut_by (c ∷ cs) (cond (ltb k (length (c ∷ cs))) (Some k) None)) one
 
-  pub cut_on : i < length line → (at ≡ 32 → ⊥) → behind (take (i + 1) line) (cut_of (drop (i + 1) line)) ≡ cut_of line
-  cut_on h ne =
-      ap (λ l. behind l (cut_of (drop (i + 1) line))) (take_more line i 0 h)
-      ∙ behind_more (take i line) at (cut_of (drop (i + 1) line))
-      ∙ ap (λ t. behind (take i line) (cond t (made [] (drop (i + 1) line)) (longer at (cut_of (drop (i + 1) line))))) (sym (ne_eqb at 32 ne))
-      ∙ ap (behind (take i line)) (sym (after h)) ∙ inv
+pub cut_at-position : (mark : ℕ) (xs : List ℕ) → cut_at mark xs ≡ cut_by xs (position (λ c. eqb c mark) xs)
+cut_at-position mark [] = refl
+cut_at-position mark (c ∷ cs) =
+    here c cs (position_or_len (λ x. eqb x mark) cs) (cut_at mark cs) (eqb c mark) (cut_at-position mark cs)
 
-  pub cut_here : i < length line → at ≡ 32 → made (take (i - 0) line) (take (length line - (i + 1)) (drop (i + 1) line)) ≡ cut_of line
-  cut_here h is =
-      ap₂ made (ap (λ k. take k line) (let e : i - 0 ≡ i = omega arith in e) ∙ sym (append-nil (take i line))) (take_rest line (i + 1))
-      ∙ ap (λ t. behind (take i line) (cond t (made [] (drop (i + 1) line)) (longer at (cut_of (drop (i + 1) line))))) (sym (eq-eqb at 32 is))
-      ∙ ap (behind (take i line)) (sym (after h)) ∙ inv
+pub cut_found : (mark : ℕ) (xs : List ℕ) (i : ℕ) → position (λ c. eqb c mark) xs ≡ Some i → made (take i xs) (take (length xs - (i + 1)) (drop (i + 1) xs)) ≡ cut_at mark xs
+cut_found mark xs i e = rw (take_rest xs (i + 1), cut_at-position mark xs, e) refl
 
-  pub cut_none : length line ≤ i → None ≡ cut_of line
-  cut_none h = ap (behind (take i line)) (sym (at_drop_all cut_of line i h)) ∙ inv
+pub cut_missed : (mark : ℕ) (xs : List ℕ) → position (λ c. eqb c mark) xs ≡ None → None ≡ cut_at mark xs
+cut_missed mark xs e = rw (cut_at-position mark xs, e) refl
 
 -- numbers
 pub number_start : (field : List ℕ) → (length field ≡ 0 → ⊥) → count_from 0 (drop 0 field) ≡ number_in field

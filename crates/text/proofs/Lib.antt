@@ -2,4 +2,3 @@ pub mod Breaks
 pub mod Comes
 pub mod Cuts
 pub mod Hexes
-pub mod Spelling

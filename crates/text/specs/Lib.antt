@@ -2,5 +2,6 @@ pub mod Fields
 pub mod Hex
 pub mod Laws
 pub mod Lines
+pub mod Reads
 pub mod WordViews
 pub mod Words

@@ -16,10 +16,14 @@ abbrev pub longer : ℕ → Option Cut → Option Cut
 longer c None = None
 longer c (Some k) = Some (record { first = c ∷ k.first; rest = k.rest })
 
--- cut at the first space, if there is one
+-- cut at the first place of a mark, if there is one
+abbrev pub cut_at : ℕ → List ℕ → Option Cut
+cut_at mark [] = None
+cut_at mark (c ∷ cs) = cond (c == mark) (Some (record { first = []; rest = cs })) (longer c (cut_at mark cs))
+
+-- cut at the first space
 abbrev pub cut_of : List ℕ → Option Cut
-cut_of [] = None
-cut_of (c ∷ cs) = cond (c == 32) (Some (record { first = []; rest = cs })) (longer c (cut_of cs))
+cut_of line = cut_at 32 line
 
 -- one step of a decimal number; no field takes numbers of 2 to the power of 32 or above, which all count as that
 abbrev pub digit_on : ℕ → ℕ → ℕ

@@ -1,9 +1,11 @@
 //! Bytes as text: two hexadecimal digits a byte, and `-` for no bytes.
-ghost use Rattle.std.specs.Prelude.{◌≡◌, ◌<◌, ◌++◌, IfSome, IfOk, vec_items, OnOk};
-ghost use Rattle.std.specs.Option.{option_map};
+ghost use Rattle.std.specs.Prelude.{◌≡◌, ◌*◌, ◌<◌, ◌≤◌, IfSome, length, Some, take, vec_items, IsUtf8};
 ghost use Rattle.text.specs.Hex.{digit_of, byte_of, unhex, bytes_in, upper, hex, shown_bytes};
+ghost use Rattle.text.specs.Reads.{Reads};
 
-use std::alloc::{AllocError, Global};
+use super::error::ReadError;
+use std::alloc::Global;
+use std::fmt;
 
 /// The value of a digit, in either case.
 fn digit(c: u8) -> Option<u8>
@@ -11,9 +13,9 @@ fn digit(c: u8) -> Option<u8>
     ensures bound { IfSome result (λ v. v < 16) }
 {
     match c {
-        b'0'..=b'9' => Some(c - 48),
-        b'A'..=b'F' => Some(c - 55),
-        b'a'..=b'f' => Some(c - 87),
+        b'0'..=b'9' => Some(c - b'0'),
+        b'A'..=b'F' => Some(c - b'A' + 10),
+        b'a'..=b'f' => Some(c - b'a' + 10),
         _ => None,
     }
 }
@@ -22,38 +24,31 @@ fn digit(c: u8) -> Option<u8>
 pub fn byte(high: u8, low: u8) -> Option<u8>
     ensures { result ≡ byte_of high low }
 {
-    let h = digit(high)?;
-    let l = digit(low)?;
-    Some(16 * h + l)
+    Some(16 * digit(high)? + digit(low)?)
 }
 
 /// The bytes that digits stand for.
-fn bytes_of_digits(heap: Global, text: &[u8]) -> Result<Option<Vec<u8>>, AllocError>
-    ensures { IfOk result (λ o. option_map vec_items o ≡ unhex text.now) }
+fn bytes_of_digits(alloc: Global, digits: &[u8]) -> Result<Vec<u8>, ReadError>
+    ensures { Reads vec_items (unhex digits.now) result }
 {
-    let mut bytes = Vec::new(heap);
-    let mut i = 0;
-    while i < text.len() {
-        if i + 1 == text.len() {
-            return Ok(None);
-        }
-        match byte(text[i], text[i + 1]) {
-            Some(b) => bytes.push(b)?,
-            None => return Ok(None),
-        }
-        i += 2;
+    let (pairs, []) = digits.as_chunks::<2>() else {
+        return Err(ReadError::Unreadable);
+    };
+    let mut bytes = Vec::with_capacity(alloc, pairs.len())?;
+    for [high, low] in pairs {
+        bytes.push(byte(*high, *low).ok_or(ReadError::Unreadable)?)?;
     }
-    Ok(Some(bytes))
+    Ok(bytes)
 }
 
 /// The bytes that a field stands for.
-pub fn bytes_in(heap: Global, field: &[u8]) -> Result<Option<Vec<u8>>, AllocError>
-    ensures { IfOk result (λ o. option_map vec_items o ≡ bytes_in field.now) }
+pub fn bytes_in(alloc: Global, field: &[u8]) -> Result<Vec<u8>, ReadError>
+    ensures { Reads vec_items (bytes_in field.now) result }
 {
     match field {
-        [] => Ok(None),
-        b"-" => Ok(Some(Vec::new(heap))),
-        _ => bytes_of_digits(heap, field),
+        [] => Err(ReadError::Unreadable),
+        b"-" => Ok(Vec::new(alloc)),
+        _ => bytes_of_digits(alloc, field),
     }
 }
 
@@ -61,29 +56,35 @@ fn upper_digit(n: u8) -> u8
     requires { n < 16 }
     ensures { result ≡ upper n }
 {
-    if n < 10 { 48 + n } else { 55 + n }
+    if n < 10 { b'0' + n } else { b'A' + (n - 10) }
 }
 
-/// Appends the digits of bytes.
-fn push_hex(out: &mut Vec<u8>, bytes: &[u8]) -> Result<(), AllocError>
-    ensures { OnOk result (out.new.items ≡ out.old.items ++ hex bytes.now) }
+/// The digits of at most 32 bytes.
+fn digits_of<'a>(bytes: &[u8], digits: &'a mut [u8; 64]) -> &'a str
+    requires { length bytes.now ≤ 32 }
+    ensures { result.now ≡ hex bytes.now }
 {
-    for b in bytes {
-        let high = upper_digit(*b / 16);
-        let low = upper_digit(*b % 16);
-        out.push(high)?;
-        out.push(low)?;
+    for (i, b) in bytes.iter().enumerate() {
+        digits[2 * i] = upper_digit(b / 16);
+        digits[2 * i + 1] = upper_digit(b % 16);
     }
-    Ok(())
+    str::from_utf8(&digits[..2 * bytes.len()]).unwrap()
 }
 
-/// Appends a field of bytes.
-pub fn push_bytes(out: &mut Vec<u8>, bytes: &[u8]) -> Result<(), AllocError>
-    ensures { OnOk result (out.new.items ≡ out.old.items ++ shown_bytes bytes.now) }
-{
-    if bytes.is_empty() {
-        out.push(b'-')?;
-        return Ok(());
+/// Bytes, as they are printed: two digits in upper case for each, and `-` for none.
+#[derive(Clone, Copy)]
+pub struct Hex<'a>(pub &'a [u8]);
+
+impl<'a> fmt::Display for Hex<'a> {
+    ghost output = { λ h. Some (shown_bytes h.0.now) };
+
+    fn fmt<W: fmt::Write>(&self, f: &mut fmt::Formatter<W>) -> fmt::Result {
+        if self.0.is_empty() {
+            return write!(f, "-");
+        }
+        for part in self.0.chunks(32) {
+            f.write_str(digits_of(part, &mut [0; 64]))?;
+        }
+        Ok(())
     }
-    push_hex(out, bytes)
 }

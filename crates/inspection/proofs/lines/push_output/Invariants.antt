@@ -1,12 +1,9 @@
-use Rattle.std.proofs.Common.{◌≡◌, ◌+◌, ◌≤◌, ◌++◌, length, vec_items}
+use Rattle.std.proofs.Common.{◌≡◌, ◌+◌, ◌++◌, string_bytes}
+use Rattle.std.specs.Iterator.Adapters.{enumerate_count, enumerate_source}
 use Rattle.inspection.specs.Lines.{output_from, output}
 use Rattle.inspection.proofs.lines.push_output.Given as goal
-use Rattle.text.specs.Lines.{lines_of}
 
-abbrev pub invariant-loop-rest : goal.invariant-loop-rest
-invariant-loop-rest l =
-    (vec_items l.out ++ output_from (l.read + 1) (lines_of l.rest) ≡ vec_items l.initial.out ++ output l.input)
-    × (l.read + length l.rest ≤ length l.input)
-
-abbrev pub decreases-loop-rest : goal.decreases-loop-rest
-decreases-loop-rest l = length l.rest
+abbrev pub invariant-loop-i : goal.invariant-loop-i
+invariant-loop-i l =
+    string_bytes l.out ++ output_from (enumerate_count l.i-iterator + 1) (enumerate_source l.i-iterator)
+    ≡ string_bytes l.initial.out ++ output l.input

@@ -1,25 +1,18 @@
-use Rattle.std.proofs.Common.{◌≡◌, ◌+◌, [], ◌∷◌, drop, vec_items, sym, refl, subst, arith}
-use Rattle.std.proofs.lemmas.Slice.{pushed}
+use Rattle.std.proofs.Common.{◌≡◌, ◌/◌, ◌%◌, length, vec_items, arith, rules}
 use Rattle.text.specs.Hex.{unhex}
-use Rattle.text.proofs.Hexes.{follow, read_on, read_none, read_odd, read_all}
+use Rattle.text.proofs.Hexes.{unhex-odd, read_start, read_on}
 use Rattle.text.proofs.hex.bytes_of_digits.Goals as goal
 
-pub returns-then-i-text : goal.returns-then-i-text
-returns-then-i-text c =
-    read_odd c.args.text.now (vec_items c.loop-i.bytes) c.loop-i.i (unhex c.args.text.now) (omega arith) c.loop-i.invariant
+pub returns-in_default : goal.returns-in_default
+returns-in_default c =
+    unhex-odd (length c.args.digits.now / 2) c.args.digits.now (omega (arith, c.as_chunks.ensures.back_len))
 
-pub returns-in-None : goal.returns-in-None
-returns-in-None c =
-    read_none c.args.text.now (vec_items c.loop-i.bytes) c.loop-i.i (unhex c.args.text.now) (omega arith)
-    (sym c.in-None.ensures) c.loop-i.invariant
+pub loop-high-init : goal.loop-high-init
+loop-high-init c =
+    let even : length c.args.digits.now % 2 ≡ 0 = omega (arith, c.as_chunks.ensures.back_len) in
+    read_start c.args.digits.now c.as_chunks.result.0.now (vec_items c.in_ok-bytes.bytes) even c.as_chunks.ensures.front c.in_ok-bytes.ensures.items
 
-pub loop-i-preserved : goal.loop-i-preserved
-loop-i-preserved c =
-    let text = c.args.text.now in
-    let more = pushed (c.in-Some.b ∷ []) refl c.in_ok-push-in-Some.was c.push.ensures.items in
-    subst (λ l. follow l (unhex (drop (c.loop-i.i + 2) text)) ≡ unhex text) (sym more)
-    (read_on text (vec_items c.loop-i.bytes) c.loop-i.i c.in-Some.b (unhex text) (omega arith) (sym c.in-Some.ensures) c.loop-i.invariant)
-
-pub returns : goal.returns
-returns c =
-    read_all c.args.text.now (vec_items c.loop-i.bytes) c.loop-i.i (unhex c.args.text.now) (omega arith) c.loop-i.invariant
+pub loop-high-preserved : goal.loop-high-preserved
+loop-high-preserved c =
+    rw c.in_ok-push.ensures.items
+    (read_on c.as_chunks.result.0.now (vec_items c.loop-high.bytes) c.loop-high.high-index (unhex c.args.digits.now) c.loop-high.invariant _ (omega arith) (search rules))

@@ -1,10 +1,7 @@
-use Rattle.std.proofs.Common.{◌≡◌, ◌-◌, length, drop, vec_items}
+use Rattle.std.proofs.Common.{◌≡◌, drop, vec_items}
 use Rattle.text.specs.Hex.{unhex}
-use Rattle.text.proofs.Hexes.{follow}
+use Rattle.text.proofs.Hexes.{follow, bytes_of}
 use Rattle.text.proofs.hex.bytes_of_digits.Given as goal
 
-abbrev pub invariant-loop-i : goal.invariant-loop-i
-invariant-loop-i l = follow (vec_items l.bytes) (unhex (drop l.i l.text)) ≡ unhex l.text
-
-abbrev pub decreases-loop-i : goal.decreases-loop-i
-decreases-loop-i l = length l.text - l.i
+abbrev pub invariant-loop-high : goal.invariant-loop-high
+invariant-loop-high l = follow (vec_items l.bytes) (bytes_of (drop l.high-index l.pairs)) ≡ unhex l.digits
