@@ -3,7 +3,5 @@ pub mod Delivered
 pub mod Going
 pub mod Heard
 pub mod Kept
-pub mod Meetings
 pub mod Ordered
 pub mod Shorts
-pub mod Stepping

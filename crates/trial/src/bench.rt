@@ -1,20 +1,19 @@
 //! The bench: both ends as a script sets them, with the card woken.
-ghost use Rattle.std.specs.Prelude.{◌≡◌, true};
+ghost use Rattle.std.specs.Prelude.{◌≡◌, true, length};
 ghost use Rattle.card.specs.Held.{settings_of, settings_good};
 ghost use Rattle.protocol.specs.Settings.{card_in_range};
 ghost use Rattle.pair.specs.Pairs.{world_seen, setup_seen};
 ghost use Rattle.pair.specs.Runs.{ran};
 ghost use Rattle.script.specs.SetupViews.{values_seen};
 ghost use Rattle.stages.specs.Setups.{wished};
-ghost use Rattle.trial.specs.Benches.{reader_for, card_for, room, waking};
+ghost use Rattle.trial.specs.Benches.{reader_for, card_for, waking};
 ghost use Rattle.trial.specs.Starts.{Stands};
 
-use super::calls::{ask, hear, start};
 use applications::Application;
 use buffers::ANSWER_ROOM;
 use card::{CardSettings, LONGEST_HISTORICAL};
 use frames::Refusal;
-use pair::{Fate, Pair};
+use pair::{Call, Fate, Pair};
 use script::Values;
 use stages::Settings;
 
@@ -46,15 +45,14 @@ pub fn card_settings(values: Values) -> CardSettings
     }
 }
 
-/// Wakes the card, unharmed.
-fn wake<A: Application>(pair: &mut Pair<A>)
+/// Wakes the card, unharmed; each call is handed this buffer.
+pub fn wake<A: Application>(pair: &mut Pair<A>, out: &mut [u8])
     ensures setup { setup_seen A.Application.model pair.new ≡ setup_seen A.Application.model pair.old }
-    ensures world { world_seen pair.new ≡ ran (setup_seen A.Application.model pair.old) room (world_seen pair.old) waking }
+    ensures world { world_seen pair.new ≡ ran (setup_seen A.Application.model pair.old) (length out.old) (world_seen pair.old) waking }
 {
-    let mut out = [0u8; ANSWER_ROOM];
-    pair.call(ask(), Fate::Whole, &mut out);
-    pair.call(hear(), Fate::Whole, &mut out);
-    pair.call(start(), Fate::Whole, &mut out);
+    pair.call(Call::Ask, Fate::Whole, out);
+    pair.call(Call::Hear, Fate::Whole, out);
+    pair.call(Call::Start, Fate::Whole, out);
 }
 
 /// The bench with these values, the card woken; or none, where a setting is out of its range.
@@ -62,6 +60,6 @@ pub fn set_up<A: Application>(values: Values, application: A) -> Result<Pair<A>,
     ensures { Stands A.Application.model (values_seen values) application result }
 {
     let mut pair = Pair::new(reader_settings(values), card_settings(values), application)?;
-    wake(&mut pair);
+    wake(&mut pair, &mut [0; ANSWER_ROOM]);
     Ok(pair)
 }

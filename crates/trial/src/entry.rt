@@ -1,16 +1,15 @@
-//! One entry of a script, played.
+//! One entry of a script, as a step of a pair.
 ghost use Rattle.std.specs.Prelude.{◌≡◌};
 ghost use Rattle.pair.specs.Pairs.{deed_seen, fate_seen};
+ghost use Rattle.pair.specs.Records.{step_seen};
 ghost use Rattle.script.specs.Orders.{order_seen, entry_seen, fate_seen as going_seen};
 ghost use Rattle.trial.specs.Benches.{deed_of, act_of};
 ghost use Rattle.trial.specs.Rows.{without_check};
 
-use pair::{Call, Fate};
+use pair::{Call, Fate, NOISE, Step};
 use script::{Entry, Going, Order};
 
-/// What is heard where a script spoils a reply.
-static NOISE: [u8; 3] = [0, 0, 0];
-
+/// The crates `script` and `pair` know nothing of each other, so each has its own word for this.
 fn fate_of(going: Going) -> Fate
     ensures { fate_seen result ≡ going_seen going }
 {
@@ -33,23 +32,19 @@ fn order_call<'a>(order: &'a Order) -> Call<'a>
     }
 }
 
-/// The call of an entry.
-pub fn call_of<'a>(entry: &'a Entry) -> Call<'a>
-    ensures { deed_seen result ≡ (act_of (entry_seen entry.now)).deed }
+/// The call of an entry, and the fate of the frame that it writes.
+pub fn step_of<'a>(entry: &'a Entry) -> Step<'a>
+    ensures { step_seen result ≡ act_of (entry_seen entry.now) }
 {
     match entry {
-        Entry::Call(order, _) => order_call(order),
-        Entry::Stop => Call::GiveUp,
-    }
-}
-
-/// The fate of the frame that its call writes.
-pub fn going_of(entry: &Entry) -> Fate
-    ensures { fate_seen result ≡ (act_of (entry_seen entry.now)).fate }
-{
-    match entry {
-        Entry::Call(_, going) => fate_of(*going),
-        Entry::Stop => Fate::Whole,
+        Entry::Call(order, going) => Step {
+            call: order_call(order),
+            fate: fate_of(*going),
+        },
+        Entry::Stop => Step {
+            call: Call::GiveUp,
+            fate: Fate::Whole,
+        },
     }
 }
 
@@ -57,9 +52,5 @@ pub fn going_of(entry: &Entry) -> Fate
 pub fn without_check(frame: &[u8]) -> &[u8]
     ensures { result.now ≡ without_check frame.now }
 {
-    let n = frame.len();
-    if n < 2 {
-        return &frame[0..0];
-    }
-    &frame[0..n - 2]
+    &frame[..frame.len().saturating_sub(2)]
 }

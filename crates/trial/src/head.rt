@@ -1,10 +1,8 @@
 //! A whole script: its set-up, its names, and its calls.
-ghost use Rattle.std.specs.Prelude.{◌≡◌, ◌++◌, OnOk};
+ghost use Rattle.std.specs.Prelude.{◌≡◌, ◌++◌, OnOk, string_bytes};
 ghost use Rattle.pair.specs.Pairs.{world_seen, setup_seen};
 ghost use Rattle.script.specs.SetupViews.{values_seen, chosen_seen};
-ghost use Rattle.text.specs.Lines.{lines_of};
-ghost use Rattle.trial.specs.NextLines.{NextLine};
-ghost use Rattle.trial.specs.Outputs.{calls_shown, bench_shown, chosen_shown, with_values, output};
+ghost use Rattle.trial.specs.Outputs.{calls_shown, bench_shown, chosen_shown, output};
 
 use super::bench::set_up;
 use super::rows::push_rows;
@@ -12,93 +10,68 @@ use applications::{Application, Metre, Yarn};
 use pair::Pair;
 use script::{App, Values, names_calls, names_setup, push_names, values_in};
 use std::alloc::{AllocError, Global};
-use text::{first_line, push_bad};
-
-/// The next line of a text, and what stands behind it.
-fn next_line<'a>(text: &'a [u8]) -> Option<(&'a [u8], &'a [u8])>
-    ensures { NextLine (lines_of text.now) result }
-{
-    if text.is_empty() {
-        return None;
-    }
-    Some(first_line(text))
-}
+use std::fmt::Write;
+use text::{BadLine, Lines};
 
 /// Line 3 and the calls behind it.
 fn push_calls<A: Application>(
-    heap: Global,
+    alloc: Global,
     pair: &mut Pair<A>,
-    out: &mut Vec<u8>,
-    text: &[u8],
+    out: &mut String,
+    mut lines: Lines<'_>,
 ) -> Result<(), AllocError>
-    ensures { OnOk result (out.new.items ≡ out.old.items ++ calls_shown (setup_seen A.Application.model pair.old) (world_seen pair.old) (lines_of text.now)) }
+    ensures { OnOk result (string_bytes out.new ≡ string_bytes out.old ++ calls_shown (setup_seen A.Application.model pair.old) (world_seen pair.old) lines.entry) }
 {
-    let Some((line, calls)) = next_line(text) else {
-        return push_bad(out, 3);
-    };
-    if !names_calls(line) {
-        return push_bad(out, 3);
+    match lines.next() {
+        Some(line) if names_calls(line) => {
+            push_names(out)?;
+            push_rows(alloc, pair, out, lines)
+        }
+        _ => write!(out, "{}", BadLine(3)),
     }
-    push_names(out)?;
-    push_rows(heap, pair, out, calls)
 }
 
 /// A bench with these values and this application.
 fn push_bench<A: Application + Drop>(
-    heap: Global,
+    alloc: Global,
     values: Values,
     application: A,
-    out: &mut Vec<u8>,
-    text: &[u8],
+    out: &mut String,
+    lines: Lines<'_>,
 ) -> Result<(), AllocError>
-    ensures { OnOk result (out.new.items ≡ out.old.items ++ bench_shown A.Application.model (values_seen values) application (lines_of text.now)) }
+    ensures { OnOk result (string_bytes out.new ≡ string_bytes out.old ++ bench_shown A.Application.model (values_seen values) application lines) }
 {
     match set_up(values, application) {
-        Ok(pair) => {
-            let mut pair = pair;
-            push_calls(heap, &mut pair, out, text)
-        }
-        Err(_) => push_bad(out, 2),
+        Ok(mut pair) => push_calls(alloc, &mut pair, out, lines),
+        Err(_) => write!(out, "{}", BadLine(2)),
     }
 }
 
 /// The application that the values choose.
 fn push_chosen(
-    heap: Global,
+    alloc: Global,
     values: Values,
-    out: &mut Vec<u8>,
-    text: &[u8],
+    out: &mut String,
+    lines: Lines<'_>,
 ) -> Result<(), AllocError>
-    ensures { OnOk result (out.new.items ≡ out.old.items ++ chosen_shown (chosen_seen values.app) (values_seen values) (lines_of text.now)) }
+    ensures { OnOk result (string_bytes out.new ≡ string_bytes out.old ++ chosen_shown (chosen_seen values.app) (values_seen values) lines) }
 {
     match values.app {
-        App::Metre(count) => push_bench(heap, values, Metre::new(count), out, text),
-        App::Yarn(fill) => push_bench(heap, values, Yarn::filled(fill), out, text),
-    }
-}
-
-/// Line 2 and what stands behind it.
-fn push_values(heap: Global, out: &mut Vec<u8>, text: &[u8]) -> Result<(), AllocError>
-    ensures { OnOk result (out.new.items ≡ out.old.items ++ with_values (lines_of text.now)) }
-{
-    let Some((line, rest)) = next_line(text) else {
-        return push_bad(out, 2);
-    };
-    match values_in(line) {
-        Some(values) => push_chosen(heap, values, out, rest),
-        None => push_bad(out, 2),
+        App::Metre(count) => push_bench(alloc, values, Metre::new(count), out, lines),
+        App::Yarn(fill) => push_bench(alloc, values, Yarn::filled(fill), out, lines),
     }
 }
 
 /// Appends what is printed for a whole script.
-pub fn push_output(heap: Global, out: &mut Vec<u8>, input: &[u8]) -> Result<(), AllocError>
-    ensures { OnOk result (out.new.items ≡ out.old.items ++ output input.now) }
+pub fn push_output(alloc: Global, out: &mut String, input: &[u8]) -> Result<(), AllocError>
+    ensures { OnOk result (string_bytes out.new ≡ string_bytes out.old ++ output input.now) }
 {
-    let Some((line, rest)) = next_line(input) else {
-        return push_bad(out, 1);
-    };
-    if !names_setup(line) {
-        return push_bad(out, 1);
+    let mut lines = Lines::new(input);
+    if !lines.next().is_some_and(names_setup) {
+        return write!(out, "{}", BadLine(1));
     }
-    push_values(heap, out, rest)
+    match lines.next().and_then(values_in) {
+        Some(values) => push_chosen(alloc, values, out, lines),
+        None => write!(out, "{}", BadLine(2)),
+    }
 }

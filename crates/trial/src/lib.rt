@@ -2,10 +2,9 @@
 #![tactic(auto)]
 
 mod bench;
-mod calls;
 mod entry;
 mod head;
 mod rows;
 
-pub use bench::{card_settings, reader_settings, set_up};
+pub use bench::{card_settings, reader_settings, set_up, wake};
 pub use head::push_output;
