@@ -21,15 +21,21 @@ use frames::{Agreed, Block, CardNumber, FrameFault, Refusal, write_block};
 /// For how many carrier cycles a reader listens after RATS and after deselect.
 const ACTIVATION_TIME: u32 = 65_536;
 
+/// A frame of this length is out, and is answered within the time of activation.
+fn activating(len: usize) -> Sent
+    ensures { result ≡ record { len = len; cycles = 65536 } }
+{
+    Sent {
+        len,
+        cycles: ACTIVATION_TIME,
+    }
+}
+
 /// Writes RATS.
 pub fn write_request(setup: Setup, out: &mut [u8]) -> Result<Sent, Refusal>
     ensures { Writes (seal (rats_of (setup_seen setup).fsdi (setup_seen setup).cid)) result out.old out.new }
 {
-    let len = write_rats(setup.rats(), out)?;
-    Ok(Sent {
-        len,
-        cycles: ACTIVATION_TIME,
-    })
+    Ok(activating(write_rats(setup.rats(), out)?))
 }
 
 /// Writes deselect, with this card number or without.
@@ -37,11 +43,7 @@ pub fn write_deselect(card: Option<CardNumber>, out: &mut [u8]) -> Result<Sent, 
     requires { cid_in_range (cid_seen card) ≡ true }
     ensures { Writes (frame_of (deselect (cid_seen card))) result out.old out.new }
 {
-    let len = write_block(Block::deselecting(card), out)?;
-    Ok(Sent {
-        len,
-        cycles: ACTIVATION_TIME,
-    })
+    Ok(activating(write_block(Block::deselecting(card), out)?))
 }
 
 /// What was heard as an ATS; nothing heard is silence.

@@ -5,7 +5,7 @@ ghost use Rattle.frames.specs.Views.{cid_seen, agreement};
 ghost use Rattle.frames.specs.Writing.{cid_in_range};
 ghost use Rattle.protocol.specs.Reader.{on_deselect, agreed_of};
 ghost use Rattle.stages.specs.Calls.{Makes};
-ghost use Rattle.stages.specs.Results.{at_deselect, heard_by};
+ghost use Rattle.stages.specs.Results.{at_deselect, outcome_by};
 ghost use Rattle.stages.specs.Setups.{setup_seen};
 ghost use Rattle.stages.specs.Stages.{closing_seen, closed_seen, latest_link, link_held};
 
@@ -13,6 +13,7 @@ use super::{Closed, Closing, Listen, Stage};
 use crate::next::{AfterDeselect, Heard};
 use crate::outcome::Outcome;
 use crate::requests::{is_deselect, write_deselect};
+use activation::Ats;
 use exchange::{Link, Sent};
 use frames::{Agreed, CardNumber, GREATEST_FRAME, Refusal};
 
@@ -33,31 +34,34 @@ impl Listen for Closing {
             let stage = Closed { closing: self };
             return Ok((AfterDeselect::Closed(stage), Outcome::Off));
         }
-        self.again(out)
+        Ok(self.again(out))
     }
 }
 
 impl Closing {
+    /// What the reader holds of the card; none where no card was woken.
+    pub fn link(&self) -> Option<Link>
+        ensures { link_held result ≡ (closing_seen self.now).link }
+    {
+        self.view().link
+    }
+
     /// Deselect again, while there are repeats left.
-    fn again<'a>(self, out: &mut [u8]) -> Heard<'a, AfterDeselect, Closing>
+    fn again<'a>(self, out: &mut [u8]) -> (AfterDeselect, Outcome<Ats<'a>>)
         requires { greatest_frame ≤ length out.old }
-        ensures { Makes (setup_seen self.setup) (on_deselect (setup_seen self.setup) (closing_seen self).link (closing_seen self).exchange false) (heard_by at_deselect (λ s. setup_seen s.setup) closing_seen result out.new) out.old out.new }
+        ensures { Makes (setup_seen self.setup) (on_deselect (setup_seen self.setup) (closing_seen self).link (closing_seen self).exchange false) (at_deselect result.0 (outcome_by result.1 out.new)) out.old out.new }
     {
         if self.tries >= self.setup.repeats() {
             let stage = Closed { closing: self };
-            return Ok((AfterDeselect::Closed(stage), Outcome::Unanswered));
+            return (AfterDeselect::Closed(stage), Outcome::Unanswered);
         }
-        match write_deselect(self.card(), out) {
-            Ok(sent) => {
-                let stage = Closing {
-                    setup: self.setup,
-                    latest: self.latest,
-                    tries: self.tries + 1,
-                };
-                Ok((AfterDeselect::Closing(stage), Outcome::Wrote(sent)))
-            }
-            Err(why) => Err((self, why)),
-        }
+        let sent = write_deselect(self.card(), out).unwrap();
+        let stage = Closing {
+            setup: self.setup,
+            latest: self.latest,
+            tries: self.tries + 1,
+        };
+        (AfterDeselect::Closing(stage), Outcome::Wrote(sent))
     }
 
     /// The card number in the reader's blocks.
@@ -74,13 +78,6 @@ impl Closing {
     {
         self.link().map_or(Agreed::NoNumber, Link::agreed)
     }
-
-    /// What the reader holds of the card; none where no card was woken.
-    pub fn link(&self) -> Option<Link>
-        ensures { link_held result ≡ (closing_seen self.now).link }
-    {
-        self.view().link
-    }
 }
 
 impl Closed {
@@ -88,6 +85,6 @@ impl Closed {
     pub fn link(&self) -> Option<Link>
         ensures { link_held result ≡ (closed_seen self.now).link }
     {
-        self.view().link
+        self.closing.link()
     }
 }

@@ -31,33 +31,32 @@ impl Listen for Busy {
 
     fn listen<'a>(self, bytes: Option<&'a [u8]>, out: &mut [u8]) -> Heard<'a, AfterBlock, Busy> {
         let setup = self.setup;
-        match self.running.hear(setup.limits(), bytes, out) {
-            Ok(Turn::Wrote { running, sent }) => {
-                let stage = Busy { setup, running };
-                Ok((AfterBlock::Busy(stage), Outcome::Wrote(sent)))
-            }
-            Ok(
-                Turn::Answered {
-                    exchange,
-                    len,
-                    report,
-                },
-            ) => {
-                let stage = Idle { setup, exchange };
-                Ok((AfterBlock::Idle(stage), Outcome::Answered { len, report }))
-            }
-            Ok(
-                Turn::Over {
-                    exchange,
-                    ending,
-                    report,
-                },
-            ) => {
-                let stage = Ended { setup, exchange };
-                Ok((AfterBlock::Ended(stage), Outcome::Over { ending, report }))
-            }
-            Err((running, why)) => Err((Busy { setup, running }, why)),
-        }
+        let turn = match self.running.hear(setup.limits(), bytes, out) {
+            Ok(turn) => turn,
+            Err((running, why)) => return Err((Busy { setup, running }, why)),
+        };
+        Ok(match turn {
+            Turn::Wrote { running, sent } => (
+                AfterBlock::Busy(Busy { setup, running }),
+                Outcome::Wrote(sent),
+            ),
+            Turn::Answered {
+                exchange,
+                len,
+                report,
+            } => (
+                AfterBlock::Idle(Idle { setup, exchange }),
+                Outcome::Answered { len, report },
+            ),
+            Turn::Over {
+                exchange,
+                ending,
+                report,
+            } => (
+                AfterBlock::Ended(Ended { setup, exchange }),
+                Outcome::Over { ending, report },
+            ),
+        })
     }
 }
 

@@ -8,7 +8,7 @@ ghost use Rattle.frames.specs.Faults.{cause_seen};
 ghost use Rattle.frames.specs.Sizes.{greatest_frame};
 ghost use Rattle.protocol.specs.Reader.{ask as asks, start as starts, on_ats};
 ghost use Rattle.stages.specs.Calls.{Does, Turns, Hears, Makes};
-ghost use Rattle.stages.specs.Results.{asked, started, made, heard_by, at_rats};
+ghost use Rattle.stages.specs.Results.{asked, started, made, outcome_by, at_rats};
 ghost use Rattle.stages.specs.Setups.{wished, setup_seen, setup_for, all_least};
 ghost use Rattle.stages.specs.Stages.{unwoken_seen, asking_seen, woken_seen};
 
@@ -77,54 +77,45 @@ impl Listen for Asking {
         if out.len() < GREATEST_FRAME {
             return Err((self, Refusal::Buffer));
         }
-        match hear_answer(bytes, self.setup) {
+        Ok(match hear_answer(bytes, self.setup) {
             Ok(ats) => self.wake(ats),
             Err(fault) => self.again(fault.cause(), out),
-        }
+        })
     }
 }
 
 impl Asking {
     /// The card is awake; an ATS that was read has no reserved value, so that it gives a link.
-    fn wake<'a>(self, ats: Ats<'a>) -> Heard<'a, AfterRats, Asking>
+    fn wake<'a>(self, ats: Ats<'a>) -> (AfterRats, Outcome<Ats<'a>>)
         requires { ValidAts (said_by ats) }
-        ensures { (buffer : List ℕ) → Makes (setup_seen self.setup) (on_ats (setup_seen self.setup) (asking_seen self).link (asking_seen self).exchange (good (said_by ats.entry))) (heard_by at_rats (λ s. setup_seen s.setup) asking_seen result buffer) buffer buffer }
+        ensures { (buffer : List ℕ) → Makes (setup_seen self.setup) (on_ats (setup_seen self.setup) (asking_seen self).link (asking_seen self).exchange (good (said_by ats.entry))) (at_rats result.0 (outcome_by result.1 buffer)) buffer buffer }
     {
-        let setup = self.setup;
-        let Some(link) = Link::of(ats, setup.cid()) else {
-            return Err((self, Refusal::Setting));
+        let stage = Woken {
+            setup: self.setup,
+            exchange: Exchange::new(Link::of(ats, self.setup.cid()).unwrap()),
         };
-        let exchange = Exchange::new(link);
-        Ok((
-            AfterRats::Woken(Woken { setup, exchange }),
-            Outcome::Wakes(ats),
-        ))
+        (AfterRats::Woken(stage), Outcome::Wakes(ats))
     }
 
     /// RATS again, while there are repeats left.
-    fn again<'a>(self, why: Cause, out: &mut [u8]) -> Heard<'a, AfterRats, Asking>
+    fn again<'a>(self, why: Cause, out: &mut [u8]) -> (AfterRats, Outcome<Ats<'a>>)
         requires { greatest_frame ≤ length out.old }
-        ensures { Makes (setup_seen self.setup) (on_ats (setup_seen self.setup) (asking_seen self).link (asking_seen self).exchange (bad (cause_seen why))) (heard_by at_rats (λ s. setup_seen s.setup) asking_seen result out.new) out.old out.new }
+        ensures { Makes (setup_seen self.setup) (on_ats (setup_seen self.setup) (asking_seen self).link (asking_seen self).exchange (bad (cause_seen why))) (at_rats result.0 (outcome_by result.1 out.new)) out.old out.new }
     {
-        let setup = self.setup;
-        if self.tries >= setup.repeats() {
+        if self.tries >= self.setup.repeats() {
             let outcome = Outcome::Over {
                 ending: Ending::Spent(Some(why)),
                 report: NO_REPORT,
             };
-            return Ok((AfterRats::Failed(Failed { asking: self }), outcome));
+            return (AfterRats::Failed(Failed { asking: self }), outcome);
         }
-        match write_request(setup, out) {
-            Ok(sent) => {
-                let stage = Asking {
-                    setup,
-                    tries: self.tries + 1,
-                    why: Some(why),
-                };
-                Ok((AfterRats::Asking(stage), Outcome::Wrote(sent)))
-            }
-            Err(refusal) => Err((self, refusal)),
-        }
+        let sent = write_request(self.setup, out).unwrap();
+        let stage = Asking {
+            setup: self.setup,
+            tries: self.tries + 1,
+            why: Some(why),
+        };
+        (AfterRats::Asking(stage), Outcome::Wrote(sent))
     }
 }
 
