@@ -1,5 +1,5 @@
 -- A PPS that counts is answered; any other frame is read as a block.
-use Rattle.std.proofs.Common.{◌≡◌, ℕ, Bool, true, false, cond, sym, refl, ap, ◌∙◌}
+use Rattle.std.proofs.Common.{◌≡◌, ℕ, Bool, true, false, cond, sym, refl, ap, ◌∙◌, Some}
 use Rattle.activation.specs.Pps.{PpsRead, pps, no_pps, offered, pps_answer}
 use Rattle.frames.specs.Check.{seal}
 use Rattle.protocol.specs.Card.{Awake, awake, changed, reply, CardMove, remains, on_pps}
@@ -26,7 +26,7 @@ module _ {S : Type 0} (set : CardSettings) (w : Awake) (s : S) (otherwise : Card
   pub unchosen : (p : PpsRead) → no_pps ≡ chosen set p → otherwise ≡ on_pps set w s p otherwise
   unchosen p e = ap on_chosen e ∙ sym (on_chosen_lem p)
 
-  pub chosen_told : (p : PpsRead) (dsi dri : ℕ) (after : AwakeCard) (t : Taken) → pps dsi dri ≡ chosen set p → awake_of after ≡ changed w dsi dri → t.sends ≡ PpsResponse → t.given ≡ false → tells set (card_after t.sends (awake_of after)) s t ≡ told_of (on_pps set w s p otherwise)
+  pub chosen_told : (p : PpsRead) (dsi dri : ℕ) (after : AwakeCard) (t : Taken) → pps dsi dri ≡ chosen set p → awake_of after ≡ changed w dsi dri → t.sends ≡ Some PpsResponse → t.given ≡ false → tells set (card_after t.sends (awake_of after)) s t ≡ told_of (on_pps set w s p otherwise)
   chosen_told p dsi dri after t e ew es eg =
       (λ i. record { card = card_after (es i) (ew i); state = s; answer = reply_for set (card_after (es i) (ew i)) (es i); given = eg i })
       ∙ ap (λ m. told_of m) (ap on_chosen e ∙ sym (on_chosen_lem p))

@@ -1,10 +1,5 @@
-pub mod Choosing
-pub mod FitBlocks
-pub mod Gathering
-pub mod Keeping
-pub mod Lifts
-pub mod Parts
-pub mod Sending
-pub mod Tested
-pub mod Valid
-pub mod Writes
+mod Choosing
+mod FitBlocks
+mod Keeping
+mod Lifts
+mod Valid

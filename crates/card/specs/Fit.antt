@@ -1,12 +1,13 @@
 -- What holds of a card at all times, so that each of its replies can be written.
-use Rattle.std.specs.Prelude.{ℕ, ◌<◌, ◌≤◌, List, length}
+use Rattle.std.specs.Prelude.{ℕ, ◌<◌, ◌≤◌, List, Some, None, Option, length}
+use Rattle.std.specs.Coded.{×_prop, Unit-prop, le_prop}
 use Rattle.applications.specs.App.{longest_answer}
-use Rattle.frames.specs.Blocks.{Block, ValidBlock, ValidCid, bytes_of}
+use Rattle.frames.specs.Blocks.{Block, i_block, r_block, deselect, wait, Cid, without, numbered, ValidBlock, ValidCid, bytes_of}
 use Rattle.frames.specs.Sizes.{greatest_code, longest_body}
 use Rattle.frames.specs.Views.{cid_seen}
 use Rattle.protocol.specs.Card.{Awake, Card, asleep, awake, halted, Owed, owes_nothing, owes_waits, owes_rest, Sent, unsent, sent}
 use Rattle.card.specs.declared.taken.Sends.{Sends}
-use Rattle.card.specs.declared.taken.Sends.TheVariants.{Nothing, Ats, PpsResponse, LastBlock, Deselect}
+use Rattle.card.specs.declared.taken.Sends.TheVariants.{Ats, PpsResponse, LastBlock, Deselect}
 
 -- a block that can be written
 abbrev pub FitBlock : Block → Type 0
@@ -38,9 +39,45 @@ FitCard (awake w) = Fit w
 FitCard halted = Unit {0}
 
 -- the answer to a deselect has a card number in its range
-abbrev pub FitSends : Sends → Type 0
-FitSends Nothing = Unit {0}
-FitSends Ats = Unit {0}
-FitSends PpsResponse = Unit {0}
-FitSends LastBlock = Unit {0}
-FitSends (Deselect card) = ValidCid (cid_seen card)
+abbrev pub FitSends : Option Sends → Type 0
+FitSends None = Unit {0}
+FitSends (Some Ats) = Unit {0}
+FitSends (Some PpsResponse) = Unit {0}
+FitSends (Some LastBlock) = Unit {0}
+FitSends (Some (Deselect card)) = ValidCid (cid_seen card)
+
+-- Each of these facts has at most one proof, so that a struct may keep it.
+
+cid_prop : (a : Cid) → IsProp (ValidCid a)
+cid_prop without = Unit-prop
+cid_prop (numbered n p) = ×_prop le_prop le_prop
+
+valid_prop : (b : Block) → IsProp (ValidBlock b)
+valid_prop (i_block chaining n a info) = ×_prop (cid_prop a) le_prop
+valid_prop (r_block nak n a) = cid_prop a
+valid_prop (deselect a) = cid_prop a
+valid_prop (wait m p a) = Prim.hlevel (cid_prop, le_prop)
+
+sent_prop : (s : Sent) → IsProp (FitSent s)
+sent_prop unsent = Unit-prop
+sent_prop (sent b) = ×_prop (valid_prop b) le_prop
+
+owed_prop : (o : Owed) → IsProp (FitOwed o)
+owed_prop owes_nothing = Unit-prop
+owed_prop (owes_waits left m answer) = Prim.hlevel le_prop
+owed_prop (owes_rest answer) = ×_prop le_prop le_prop
+
+awake_prop : (w : Awake) → IsProp (Fit w)
+awake_prop w = Prim.hlevel (le_prop, owed_prop, sent_prop)
+
+pub FitCard-prop : (c : Card) → IsProp (FitCard c)
+FitCard-prop asleep = Unit-prop
+FitCard-prop (awake w) = awake_prop w
+FitCard-prop halted = Unit-prop
+
+pub FitSends-prop : (s : Option Sends) → IsProp (FitSends s)
+FitSends-prop None = Unit-prop
+FitSends-prop (Some Ats) = Unit-prop
+FitSends-prop (Some PpsResponse) = Unit-prop
+FitSends-prop (Some LastBlock) = Unit-prop
+FitSends-prop (Some (Deselect card)) = cid_prop (cid_seen card)

@@ -1,5 +1,5 @@
 -- What the card's calls tell of the model's moves.
-use Rattle.std.specs.Prelude.{ℕ, Bool, true, false, cond, List, length, Some, None, Option}
+use Rattle.std.specs.Prelude.{◌≡◌, ℕ, Bool, true, false, cond, List, length, Some, None, Option, is_some}
 use Rattle.activation.specs.Ats.{ats_of}
 use Rattle.activation.specs.Pps.{PpsRead, pps, no_pps, offered, pps_answer}
 use Rattle.buffers.specs.Over.{over}
@@ -10,8 +10,7 @@ use Rattle.protocol.specs.Card.{Awake, Card, asleep, awake, halted, Sent, unsent
 use Rattle.protocol.specs.Settings.{CardSettings, ats_for}
 use Rattle.card.specs.declared.awake.AwakeCard.{AwakeCard}
 use Rattle.card.specs.declared.taken.Sends.{Sends}
-use Rattle.card.specs.declared.taken.Sends.TheVariants.{Nothing, Ats, PpsResponse, LastBlock, Deselect}
-use Rattle.card.specs.declared.taken.Step.{Step}
+use Rattle.card.specs.declared.taken.Sends.TheVariants.{Ats, PpsResponse, LastBlock, Deselect}
 use Rattle.card.specs.declared.taken.Taken.{Taken}
 use Rattle.card.specs.Held.{awake_of}
 
@@ -19,10 +18,6 @@ use Rattle.card.specs.Held.{awake_of}
 abbrev pub again : Sent → Reply
 again unsent = quiet
 again (sent b) = reply (frame_of b)
-
--- a step of an awake card in which its application has no part; if it speaks it sends its last block
-abbrev pub step_of : AwakeCard → Bool → CardMove (Unit {0})
-step_of w speaks = remains (awake (awake_of w)) tt (cond speaks (again (awake_of w).last) quiet)
 
 -- a PPS counts if the card offers its rates
 abbrev pub chosen : CardSettings → PpsRead → PpsRead
@@ -41,23 +36,23 @@ last_held (awake w) = w.last
 last_held halted = unsent
 
 -- what is sent, as a reply
-abbrev pub reply_for : CardSettings → Card → Sends → Reply
-reply_for set c Nothing = quiet
-reply_for set c Ats = reply (seal (ats_of (ats_for set)))
-reply_for set c PpsResponse = reply (seal (pps_answer (cid_held c)))
-reply_for set c LastBlock = again (last_held c)
-reply_for set c (Deselect card) = reply (frame_of (deselect (cid_seen card)))
+abbrev pub reply_for : CardSettings → Card → Option Sends → Reply
+reply_for set c None = quiet
+reply_for set c (Some Ats) = reply (seal (ats_of (ats_for set)))
+reply_for set c (Some PpsResponse) = reply (seal (pps_answer (cid_held c)))
+reply_for set c (Some LastBlock) = again (last_held c)
+reply_for set c (Some (Deselect card)) = reply (frame_of (deselect (cid_seen card)))
 
 -- the answer to a deselect is the last frame of all
-abbrev pub ends : Sends → Bool
-ends Nothing = false
-ends Ats = false
-ends PpsResponse = false
-ends LastBlock = false
-ends (Deselect card) = true
+abbrev pub ends : Option Sends → Bool
+ends None = false
+ends (Some Ats) = false
+ends (Some PpsResponse) = false
+ends (Some LastBlock) = false
+ends (Some (Deselect card)) = true
 
 -- an awake card after it sent this
-abbrev pub card_after : Sends → Awake → Card
+abbrev pub card_after : Option Sends → Awake → Card
 card_after sends w = cond (ends sends) halted (awake w)
 
 -- what is told of a move: the card, its application's state, what is sent back, and whether a command was given
@@ -74,14 +69,26 @@ was_given (given command) = true
 abbrev pub told_of : {S : Type 0} → CardMove S → Told S
 told_of m = record { card = m.card; state = m.state; answer = m.answer; given = was_given m.command }
 
--- what is told of an awake card's step
-abbrev pub step_told : {S : Type 0} → AwakeCard → S → Step → Told S
-step_told w s t =
-    record { card = awake (awake_of w); state = s; answer = cond t.speaks (again (awake_of w).last) quiet; given = t.given }
-
 -- what is told of a card, its application's state, and what it does
 abbrev pub tells : {S : Type 0} → CardSettings → Card → S → Taken → Told S
 tells set c s t = record { card = c; state = s; answer = reply_for set c t.sends; given = t.given }
+
+-- an awake card speaks only to send its last block
+abbrev pub SendsLast : Option Sends → Type 0
+SendsLast sends = sends ≡ cond (is_some sends) (Some LastBlock) None
+
+abbrev pub spoken : Awake → Option Sends → Reply
+spoken w sends = cond (is_some sends) (again w.last) quiet
+
+-- an awake card makes this move, in which its application has no part
+pub record Steps (w : AwakeCard) (sends : Option Sends) (m : CardMove (Unit {0})) : Type 0 where
+  pub moves : remains (awake (awake_of w)) tt (spoken (awake_of w) sends) ≡ m
+  pub last : SendsLast sends
+
+-- the same with its application in this state
+pub record Tells {S : Type 0} (w : AwakeCard) (s : S) (t : Taken) (m : CardMove S) : Type 0 where
+  pub told : ◌≡◌ {A = Told S} (record { card = awake (awake_of w); state = s; answer = spoken (awake_of w) t.sends; given = t.given }) (told_of m)
+  pub last : SendsLast t.sends
 
 -- the length of a reply, if there is one
 abbrev pub reply_length : Reply → Option ℕ

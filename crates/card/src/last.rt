@@ -1,19 +1,17 @@
 //! What the card owes its reader, and what it sent last.
 use frames::CardNumber;
 
-/// What the card still owes: nothing; waits, this many with the one that is out, and then the answer; or the answer from
-/// this byte on.
+/// What the card still owes: waits, this many with the one that is out, and then the answer; or the answer from this byte
+/// on.
 #[derive(Clone, Copy, Drop)]
 pub enum Owed {
-    Nothing,
     Waits { left: u8, multiplier: u8 },
     Rest { from: usize },
 }
 
-/// The last block, as it was sent. A part of the answer is kept by its place, and the room that its block had.
+/// A block, as it was sent. A part of the answer is kept by its place, and the room that its block had.
 #[derive(Clone, Copy, Drop)]
 pub enum LastBlock {
-    Unsent,
     Acknowledged {
         number: bool,
         card: Option<CardNumber>,

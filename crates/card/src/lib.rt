@@ -1,7 +1,6 @@
 //! The card's end of ISO/IEC 14443-4, Type A, from RATS to deselect, above any application.
 #![tactic(auto)]
 
-mod answer;
 mod awake;
 mod card;
 mod last;

@@ -1,9 +1,6 @@
 //! The last block of an awake card, written from what the card keeps of it.
 ghost use Rattle.std.specs.Prelude.{◌≡◌, ◌≤◌, length};
 ghost use Rattle.frames.specs.Sizes.{greatest_frame};
-ghost use Rattle.card.specs.Fit.{FitSent};
-ghost use Rattle.card.specs.Held.{awake_of};
-ghost use Rattle.card.specs.Told.{again, reply_length, replied};
 
 use super::AwakeCard;
 use crate::last::LastBlock;
@@ -11,26 +8,9 @@ use crate::writing::write_fit;
 use frames::Block;
 
 impl AwakeCard {
-    /// The card's number.
-    pub fn cid(&self) -> u8
-        ensures { result ≡ self.now.cid }
-    {
-        self.cid
-    }
-
-    /// The code of the divisor at which the card sends.
-    pub fn dsi(&self) -> u8
-        ensures { result ≡ self.now.dsi }
-    {
-        self.dsi
-    }
-
-    /// The code of the divisor at which the card listens.
-    pub fn dri(&self) -> u8
-        ensures { result ≡ self.now.dri }
-    {
-        self.dri
-    }
+    ghost use Rattle.card.specs.Fit.{FitSent};
+    ghost use Rattle.card.specs.Held.{awake_of};
+    ghost use Rattle.card.specs.Told.{again, reply_length, replied};
 
     /// Writes the frame of the last block, if there is one, and answers its length.
     pub fn write_last(&self, out: &mut [u8]) -> Option<usize>
@@ -39,8 +19,7 @@ impl AwakeCard {
         ensures value { result ≡ reply_length (again (awake_of self.now).last) }
         ensures bytes { out.new ≡ replied (again (awake_of self.now).last) out.old }
     {
-        match self.last {
-            LastBlock::Unsent => None,
+        match self.last? {
             LastBlock::Acknowledged { number, card } => {
                 write_fit(Block::acknowledging(false, number, card), out)
             }
@@ -54,7 +33,7 @@ impl AwakeCard {
                 from,
                 room,
             } => {
-                let information = self.answer.part(from, room);
+                let information = self.part(from, room);
                 write_fit(Block::carrying(chaining, number, card, information), out)
             }
         }

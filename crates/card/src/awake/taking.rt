@@ -6,23 +6,21 @@ ghost use Rattle.frames.specs.Blocks.{ValidBlock};
 ghost use Rattle.frames.specs.Check.{open_frame};
 ghost use Rattle.frames.specs.Sizes.{size_of};
 ghost use Rattle.frames.specs.Views.{cid_seen, block_seen};
-ghost use Rattle.protocol.specs.Card.{awake, owes_nothing, gives, takes_i, on_i, on_block, pps_in, takes};
 ghost use Rattle.protocol.specs.Settings as range;
-ghost use Rattle.card.specs.Fit.{Fit, FitSends};
-ghost use Rattle.card.specs.Held.{awake_of, settings_of};
-ghost use Rattle.card.specs.Told.{chosen, step_told, tells, told_of, card_after};
+ghost use Rattle.protocol.specs.Card.{awake, owes_nothing, gives, takes_i, on_i, on_block, pps_in, takes};
 
-use super::AwakeCard;
-use super::turning::reply_number;
-use crate::last::Owed;
+use super::{AwakeCard, reply_number};
 use crate::reading::hear_block;
 use crate::settings::CardSettings;
-use crate::taken::{Sends, Step, Taken};
+use crate::taken::{Sends, Taken};
 use activation::{Pps, offered, read_pps};
-use applications::Application;
+use applications::{Application, LONGEST_ANSWER};
 use frames::{Block, CardNumber};
 
 impl AwakeCard {
+    ghost use Rattle.card.specs.Held.{awake_of, settings_of};
+    ghost use Rattle.card.specs.Told.{Tells, chosen, tells, told_of, card_after};
+
     /// The PPS that is to be answered: the window is open, it fits the card's number, and its rates are offered.
     fn pps_in(&self, settings: &CardSettings, frame: &[u8]) -> Option<Pps>
         ensures { pps_seen result ≡ chosen (settings_of settings.now) (pps_in (settings_of settings.now) (awake_of self.now) (open_frame (size_of settings.now.fsci) frame.now)) }
@@ -30,20 +28,24 @@ impl AwakeCard {
         if !self.window {
             return None;
         }
-        match read_pps(frame, settings.frame_size(), self.cid) {
-            Some(pps) if offered(settings.ta, pps.dsi, pps.dri) => Some(pps),
-            _ => None,
-        }
+        read_pps(frame, settings.frame_size(), self.cid).filter(|pps| offered(
+            settings.ta,
+            pps.dsi,
+            pps.dri,
+        ))
     }
 
     /// Gives the command to the application. Its waits, and its answer, are owed.
-    fn give<A: Application>(&mut self, application: &mut A, card: Option<CardNumber>) -> Step
+    fn give<A: Application>(&mut self, application: &mut A, card: Option<CardNumber>) -> Taken
         requires { IsCommand (awake_of self.old).gathered }
-        ensures { step_told self.new application.new result ≡ told_of (gives A.Application.model (awake_of self.old) application.old self.old.number (cid_seen card) (awake_of self.old).gathered) }
+        ensures { Tells self.new application.new result (gives A.Application.model (awake_of self.old) application.old self.old.number (cid_seen card) (awake_of self.old).gathered) }
     {
-        let reply = self.answer.ask(application, self.gathered.gathered());
-        Step {
-            speaks: self.ask_or_answer(card, reply.waits, reply.multiplier),
+        let mut answer = [0; LONGEST_ANSWER];
+        let reply = application.respond(self.gathered.gathered(), &mut answer);
+        self.answer.clear();
+        self.answer.append(&answer[..reply.len]).unwrap();
+        Taken {
+            sends: self.ask_or_answer(card, reply.waits, reply.multiplier),
             given: true,
         }
     }
@@ -56,16 +58,16 @@ impl AwakeCard {
         chaining: bool,
         card: Option<CardNumber>,
         information: &[u8],
-    ) -> Step
+    ) -> Taken
         requires { (0 < length information.now) × ((awake_of self.old).owes ≡ owes_nothing) }
-        ensures { step_told self.new application.new result ≡ told_of (takes_i A.Application.model (awake_of self.old) application.old chaining (cid_seen card) information.now) }
+        ensures { Tells self.new application.new result (takes_i A.Application.model (awake_of self.old) application.old chaining (cid_seen card) information.now) }
     {
         if self.gathered.append(information).is_err() {
-            return Step::alone(self.stay_quiet());
+            return Taken::alone(self.stay_quiet());
         }
         self.number = !self.number;
         if chaining {
-            return Step::alone(self.acknowledge(reply_number(card)));
+            return Taken::alone(self.acknowledge(reply_number(card)));
         }
         self.give(application, reply_number(card))
     }
@@ -77,22 +79,20 @@ impl AwakeCard {
         chaining: bool,
         card: Option<CardNumber>,
         information: &[u8],
-    ) -> Step
+    ) -> Taken
         requires { 0 < length information.now }
-        ensures { step_told self.new application.new result ≡ told_of (on_i A.Application.model (awake_of self.old) application.old (awake_of self.old).owes chaining (cid_seen card) information.now) }
+        ensures { Tells self.new application.new result (on_i A.Application.model (awake_of self.old) application.old (awake_of self.old).owes chaining (cid_seen card) information.now) }
     {
-        match self.owes {
-            Owed::Nothing => self.gather(application, chaining, card, information),
-            _ => Step::alone(self.stay_quiet()),
+        if self.owes.is_some() {
+            return Taken::alone(self.stay_quiet());
         }
+        self.gather(application, chaining, card, information)
     }
 
     /// Every valid block by its kind. Deselect is answered, and the card is to fall silent.
     fn take_block<A: Application>(&mut self, application: &mut A, block: Block<'_>) -> Taken
-        requires valid { ValidBlock (block_seen block) }
-        requires fit { Fit (awake_of self.old) }
-        ensures told { (set : range.CardSettings) → tells set (card_after result.sends (awake_of self.new)) application.new result ≡ told_of (on_block A.Application.model (awake_of self.old) application.old (block_seen block.entry)) }
-        ensures fit { FitSends result.sends }
+        requires { ValidBlock (block_seen block) }
+        ensures { (set : range.CardSettings) → tells set (card_after result.sends (awake_of self.new)) application.new result ≡ told_of (on_block A.Application.model (awake_of self.old) application.old (block_seen block.entry)) }
     {
         match block {
             Block::I {
@@ -100,20 +100,14 @@ impl AwakeCard {
                 card,
                 information,
                 ..
-            } => Taken::of(self.take_information(application, chaining, card, information)),
-            Block::R { nak, number, card } => {
-                let speaks = self.take_r(nak, number, card);
-                Taken::of(Step::alone(speaks))
-            }
-            Block::Deselect { card } => Taken::sending(Sends::Deselect(reply_number(card))),
+            } => self.take_information(application, chaining, card, information),
+            Block::R { nak, number, card } => Taken::alone(self.take_r(nak, number, card)),
+            Block::Deselect { card } => Taken::alone(Some(Sends::Deselect(reply_number(card)))),
             Block::Wait {
                 multiplier,
                 card,
                 ..
-            } => {
-                let speaks = self.take_wait(multiplier, card);
-                Taken::of(Step::alone(speaks))
-            }
+            } => Taken::alone(self.take_wait(multiplier, card)),
         }
     }
 
@@ -124,17 +118,15 @@ impl AwakeCard {
         application: &mut A,
         frame: &[u8],
     ) -> Taken
-        requires { Fit (awake_of self.old) }
-        ensures told { tells (settings_of settings.now) (card_after result.sends (awake_of self.new)) application.new result ≡ told_of (takes A.Application.model (settings_of settings.now) (awake (awake_of self.old)) application.old frame.now) }
-        ensures fit { FitSends result.sends }
+        ensures { tells (settings_of settings.now) (card_after result.sends (awake_of self.new)) application.new result ≡ told_of (takes A.Application.model (settings_of settings.now) (awake (awake_of self.old)) application.old frame.now) }
     {
         if let Some(pps) = self.pps_in(settings, frame) {
             self.change(pps);
-            return Taken::sending(Sends::PpsResponse);
+            return Taken::alone(Some(Sends::PpsResponse));
         }
         match hear_block(frame, settings.frame_size(), settings.agreed(self.cid)) {
             Ok(block) => self.take_block(application, block),
-            Err(_) => Taken::of(Step::alone(self.stay_quiet())),
+            Err(_) => Taken::alone(self.stay_quiet()),
         }
     }
 }

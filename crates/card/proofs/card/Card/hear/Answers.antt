@@ -1,8 +1,7 @@
-use Rattle.std.proofs.Common.{sym, ap, subst, arith}
+use Rattle.std.proofs.Common.{sym, ap, subst}
 use Rattle.card.specs.Fit.{FitCard}
 use Rattle.card.specs.Held.{card_of, settings_of}
 use Rattle.card.proofs.Keeping.{stays_fit}
-use Rattle.card.proofs.Tested.{card_in_lem, card_of_lem}
 use Rattle.card.proofs.card.Card.hear.Given as given
 use Rattle.card.proofs.card.Card.hear.Goals as goal
 use Rattle.card.proofs.card.Card.hear.Goals.{After-take-taken}
@@ -12,24 +11,12 @@ after : (g : given.Over) (c : After-take-taken g) → FitCard (card_of c.take-ta
 after g c =
     let self = c.args.self.now in
     let card = card_of self.state in
-    subst FitCard (sym (ap (λ t. t.card) c.take-taken.ensures.told))
-    (stays_fit g.A.Application.model (settings_of self.settings) card self.application c.args.frame.now g.met.A.Application.keeps (card_of_lem card self.fit) (λ k. (c.type_inv.frame k).fits))
-
-pub take-taken-requires : goal.take-taken-requires
-take-taken-requires g c = card_of_lem (card_of c.args.self.now.state) c.args.self.now.fit
+    subst FitCard (sym (ap (λ t. t.card) c.take-taken.ensures))
+    (stays_fit g.A.Application.model (settings_of self.settings) card self.application c.args.frame.now g.met.A.Application.keeps self.fit (λ k. (c.type_inv.frame k).fits))
 
 pub invariant_of-self : goal.invariant_of-self
 invariant_of-self g c =
-    record {
-      range = c.args.self.now.range;
-      fit = card_in_lem (card_of c.take-taken.new.self) (after g (goal.at.invariant_of-self g c).After-take-taken);
-    }
+    record { range = c.args.self.now.range; fit = after g (goal.at.invariant_of-self g c).After-take-taken }
 
-pub write_reply-len-requires : goal.write_reply-len-requires
-write_reply-len-requires g c =
-    record {
-      range = c.args.self.now.range;
-      fit = after g (goal.at.write_reply-len-requires g c).After-take-taken;
-      sends = c.take-taken.ensures.fit;
-      room = omega arith;
-    }
+pub write_reply-len-requires-clause-fit : goal.write_reply-len-requires-clause-fit
+write_reply-len-requires-clause-fit g c = after g (goal.at.write_reply-len-requires-clause-fit g c).After-take-taken
