@@ -1,5 +1,5 @@
 -- What is heard and read.
-use Rattle.std.proofs.Common.{◌≡◌, ℕ, List, IfOk, Some, None, Ok, Err, Option, Result, sym, ap, arith, Bor}
+use Rattle.std.proofs.Common.{◌≡◌, ℕ, List, IfOk, Ok, Err, Result, sym}
 use Rattle.frames.proofs.BlockLaws.{reads_only_its_frame}
 use Rattle.frames.specs.Blocks.{ValidBlock}
 use Rattle.frames.specs.Laws.{Bytes}
@@ -7,17 +7,8 @@ use Rattle.frames.specs.Reading.{Agreed, read_frame}
 use Rattle.frames.specs.Views.{block_seen, seen}
 use Rattle.frames.specs.declared.block.Block.{Block}
 use Rattle.frames.specs.declared.fault.BlockFault.{BlockFault}
-use Rattle.frames.specs.declared.fault.FrameFault.{FrameFault}
-use Rattle.protocol.specs.Reader.{read_as}
-use Rattle.exchange.specs.Listening.{event_seen, heard_bytes}
 
 -- a block that is read is one
 pub valid_seen : (limit : ℕ) (agreed : Agreed) (f : List ℕ) (r : Result Block BlockFault) → Bytes f → seen r ≡ read_frame limit agreed f → IfOk r (λ b. ValidBlock (block_seen b))
 valid_seen limit agreed f (Ok b) bytes e = (reads_only_its_frame limit agreed f (block_seen b) bytes (sym e)).1.0
 valid_seen limit agreed f (Err why) bytes e = tt
-
--- bytes are read as a frame
-pub read_as_lem : (limit : ℕ) (agreed : Agreed) (heard : Option (Bor (List ℕ))) (frame : Bor (List ℕ)) → ◌≡◌ {A = Result (Bor (List ℕ)) FrameFault} (Ok frame) (heard_bytes heard) → read_frame limit agreed frame.now ≡ read_as limit agreed (event_seen heard)
-read_as_lem limit agreed (Some f) frame e =
-    let same : frame ≡ f = cc in ap (λ (r : Bor (List ℕ)). read_frame limit agreed r.now) same
-read_as_lem limit agreed None frame e = let z : ◌≡◌ {A = ℕ} 0 1 = cc in absurd (omega arith)

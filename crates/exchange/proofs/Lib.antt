@@ -1,6 +1,2 @@
-mod Exchanges
 mod Heard
 mod Moves
-mod Parts
-mod Ranges
-mod Stores

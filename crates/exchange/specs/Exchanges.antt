@@ -1,13 +1,12 @@
 -- What an exchange stands for.
 use Rattle.std.specs.Prelude.{ℕ, take, drop}
 use Rattle.buffers.specs.Stores.{held}
-use Rattle.frames.specs.Faults.{cause_seen}
 use Rattle.protocol.specs.Reader.{Exchange}
 use Rattle.protocol.specs.Settings.{room_of}
 use Rattle.exchange.specs.declared.exchange.Exchange as coded
 use Rattle.exchange.specs.declared.link.Link as held
 use Rattle.exchange.specs.Links.{link_seen}
-use Rattle.exchange.specs.Views.{progress_seen, totals_seen}
+use Rattle.exchange.specs.Views.{progress_seen, totals_seen, why_seen}
 
 -- how much information a block over this link carries at most
 abbrev pub room_for : held.Link → ℕ
@@ -24,7 +23,7 @@ exchange_seen x =
       answer = held x.answer;
       totals = totals_seen x.totals;
       since = x.since;
-      why = cause_seen x.why;
+      why = why_seen x.why;
       stretch = x.stretch;
       other = x.other;
       came = x.came;

@@ -3,4 +3,5 @@ pub mod Faults
 pub mod Links
 pub mod Listening
 pub mod Moves
+pub mod Runs
 pub mod Views

@@ -15,11 +15,6 @@ abbrev pub event_seen : Option (Bor (List ℕ)) → Event
 event_seen (Some frame) = bytes frame.now
 event_seen None = no_bytes
 
--- the bytes that were heard, or the fault that silence is
-abbrev pub heard_bytes : Option (Bor (List ℕ)) → Result (Bor (List ℕ)) FrameFault
-heard_bytes (Some frame) = Ok frame
-heard_bytes None = Err Silence
-
 -- a block that was read, or a fault
 abbrev pub reading_seen : Result Block SessionFault → Reading
 reading_seen (Ok block) = valid (block_seen block)

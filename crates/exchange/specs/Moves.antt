@@ -5,14 +5,16 @@ use Rattle.frames.specs.Refused.{refusal_number}
 use Rattle.frames.specs.Refusals.{length_refused, buffer_refused}
 use Rattle.frames.specs.Sizes.{greatest_frame}
 use Rattle.frames.specs.declared.refusal.Refusal.{Refusal}
-use Rattle.protocol.specs.Reader.{Link, Exchange, Progress, no_command, running, finished, busy, idle, ended, Outcome, refused, wrote, wakes, active, answered, over as ends, stopped, off, unanswered, fetched, Move, at, to, refuse, guarded, begins, is_command, on_reading, read_as, agreed_of, Event}
-use Rattle.exchange.specs.declared.exchange.Exchange as coded
+use Rattle.protocol.specs.Reader.{Link, Exchange as Talk, Progress, no_command, running, finished, busy, idle, ended, Outcome, refused, wrote, wakes, active, answered, over as ends, stopped, off, unanswered, fetched, Move, at, to, refuse, guarded, begins, is_command, on_reading, read_as, agreed_of, Event}
+use Rattle.exchange.specs.declared.exchange.Exchange.{Exchange}
+use Rattle.exchange.specs.declared.exchange.running.Running.{Running}
 use Rattle.exchange.specs.declared.turn.Limits.{Limits}
 use Rattle.exchange.specs.declared.turn.Sent.{Sent}
 use Rattle.exchange.specs.declared.turn.Turn.{Turn}
-use Rattle.exchange.specs.declared.turn.Turn.TheVariants.{Refused, Wrote, Answered, Over}
+use Rattle.exchange.specs.declared.turn.Turn.TheVariants.{Wrote, Answered, Over}
 use Rattle.exchange.specs.Exchanges.{exchange_seen}
 use Rattle.exchange.specs.Links.{link_seen}
+use Rattle.exchange.specs.Runs.{run_link, run_seen}
 use Rattle.exchange.specs.Views.{says_seen, totals_seen, ending_seen}
 
 -- what the buffer holds after an outcome: a frame that was written stands at its front, and else it is as it was
@@ -33,22 +35,22 @@ abbrev pub sent_seen : Sent → List ℕ → Outcome
 sent_seen s buffer = wrote (take s.len buffer) s.cycles
 
 -- the move of a busy reader
-abbrev pub turn_seen : coded.Exchange → Turn → List ℕ → Move
-turn_seen x (Refused why) buffer = refuse (refusal_number why) (at busy (link_seen x.link) (exchange_seen x))
-turn_seen x (Wrote s) buffer = to busy (link_seen x.link) (exchange_seen x) (sent_seen s buffer)
-turn_seen x (Answered n report) buffer =
+abbrev pub turn_seen : Result Turn (Running × Refusal) → List ℕ → Move
+turn_seen (Err kept) buffer = refuse (refusal_number kept.1) (at busy (run_link kept.0) (run_seen kept.0))
+turn_seen (Ok (Wrote r s)) buffer = to busy (run_link r) (run_seen r) (sent_seen s buffer)
+turn_seen (Ok (Answered x n report)) buffer =
     to idle (link_seen x.link) (exchange_seen x) (answered n (says_seen report.says) (totals_seen report.totals))
-turn_seen x (Over ending report) buffer =
+turn_seen (Ok (Over x ending report)) buffer =
     to ended (link_seen x.link) (exchange_seen x)
     (ends (ending_seen ending) (says_seen report.says) (totals_seen report.totals))
 
 -- the move of an idle reader that is handed a command
-abbrev pub begin_seen : coded.Exchange → Result Sent Refusal → List ℕ → Move
-begin_seen x (Ok s) buffer = to busy (link_seen x.link) (exchange_seen x) (sent_seen s buffer)
-begin_seen x (Err why) buffer = refuse (refusal_number why) (at idle (link_seen x.link) (exchange_seen x))
+abbrev pub begin_seen : Result (Running × Sent) (Exchange × Refusal) → List ℕ → Move
+begin_seen (Ok begun) buffer = to busy (run_link begun.0) (run_seen begun.0) (sent_seen begun.1 buffer)
+begin_seen (Err kept) buffer = refuse (refusal_number kept.1) (at idle (link_seen kept.0.link) (exchange_seen kept.0))
 
 -- what an idle reader does about a command: refused by 5 for the buffer, then by 3 for the command's length
-abbrev pub beginning : Link → Exchange → List ℕ → ℕ → Move
+abbrev pub beginning : Link → Talk → List ℕ → ℕ → Move
 beginning l x command room =
     cond (nat_lt room greatest_frame) (refuse buffer_refused (at idle l x))
     (cond (is_command command) (begins (at idle l x) command) (refuse length_refused (at idle l x)))
@@ -59,45 +61,35 @@ is_running running = true
 is_running finished = false
 
 -- what a busy reader does about an event: refused by 4 where no command runs, then by 5 for the buffer
-abbrev pub hearing : Limits → Link → Exchange → Event → ℕ → Move
+abbrev pub hearing : Limits → Link → Talk → Event → ℕ → Move
 hearing s l x e room =
     guarded (is_running x.progress) room greatest_frame (at busy l x)
     (on_reading s.repeats s.waits l x (read_as s.fsd (agreed_of l.cid) e))
 
--- an exchange that goes on is still running
-abbrev pub GoesOn : Turn → Exchange → Type 0
-GoesOn (Refused why) x = Unit {0}
-GoesOn (Wrote s) x = x.progress ≡ running
-GoesOn (Answered n report) x = Unit {0}
-GoesOn (Over ending report) x = Unit {0}
-
 -- the frame stands in the buffer, all of it
-abbrev pub Within : Turn → List ℕ → Type 0
-Within (Refused why) buffer = Unit {0}
-Within (Wrote s) buffer = s.len ≤ length buffer
-Within (Answered n report) buffer = Unit {0}
-Within (Over ending report) buffer = Unit {0}
+abbrev pub Within : Result Turn (Running × Refusal) → List ℕ → Type 0
+Within (Err kept) buffer = Unit {0}
+Within (Ok (Wrote r s)) buffer = s.len ≤ length buffer
+Within (Ok (Answered x n report)) buffer = Unit {0}
+Within (Ok (Over x ending report)) buffer = Unit {0}
 
--- a turn does what the reader's rules say: the exchange after it and what it answers, every byte of the buffer, the
--- frame's length, and that what goes on is running
-pub record Does (m : Move) (x : coded.Exchange) (turn : Turn) (old new : List ℕ) : Type 0 where
-  pub moves : turn_seen x turn new ≡ m
+-- A turn does what the reader's rules say: the exchange after it and what it answers, every byte of the buffer, and the
+-- frame's length. What goes on is a Running, whose command runs.
+pub record Does (m : Move) (turn : Result Turn (Running × Refusal)) (old new : List ℕ) : Type 0 where
+  pub moves : turn_seen turn new ≡ m
   pub bytes : new ≡ buffer_after m.outcome old
   pub within : Within turn new
-  pub going : GoesOn turn (exchange_seen x)
 
--- a command that was taken is running
-abbrev pub Begun : Result Sent Refusal → Exchange → Type 0
-Begun (Ok s) x = x.progress ≡ running
-Begun (Err why) x = Unit {0}
+-- the same of a frame that is written
+abbrev pub Sends : Move → Running → Sent → List ℕ → List ℕ → Type 0
+Sends m r s old new = Does m (Ok (Wrote r s)) old new
 
-abbrev pub BegunWithin : Result Sent Refusal → List ℕ → Type 0
-BegunWithin (Ok s) buffer = s.len ≤ length buffer
-BegunWithin (Err why) buffer = Unit {0}
+abbrev pub BegunWithin : Result (Running × Sent) (Exchange × Refusal) → List ℕ → Type 0
+BegunWithin (Ok begun) buffer = begun.1.len ≤ length buffer
+BegunWithin (Err kept) buffer = Unit {0}
 
 -- the same of a command that is handed in
-pub record Begins (m : Move) (x : coded.Exchange) (r : Result Sent Refusal) (old new : List ℕ) : Type 0 where
-  pub moves : begin_seen x r new ≡ m
+pub record Begins (m : Move) (r : Result (Running × Sent) (Exchange × Refusal)) (old new : List ℕ) : Type 0 where
+  pub moves : begin_seen r new ≡ m
   pub bytes : new ≡ buffer_after m.outcome old
   pub within : BegunWithin r new
-  pub going : Begun r (exchange_seen x)

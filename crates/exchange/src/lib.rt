@@ -9,9 +9,9 @@ mod progress;
 mod report;
 mod turn;
 
-pub use exchange::Exchange;
+pub use exchange::{Exchange, Running};
 pub use fault::SessionFault;
 pub use link::Link;
 pub use listening::listen;
-pub use report::{Ending, NO_CAUSE, Report, Says, Totals};
+pub use report::{Ending, Report, Says, Totals};
 pub use turn::{Limits, Sent, Turn};

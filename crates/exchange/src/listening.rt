@@ -4,20 +4,10 @@ ghost use Rattle.frames.specs.Blocks.{ValidBlock};
 ghost use Rattle.frames.specs.Reading.{read_frame};
 ghost use Rattle.frames.specs.Views.{agreement, block_seen, seen};
 ghost use Rattle.protocol.specs.Reader.{read_as};
-ghost use Rattle.exchange.specs.Listening.{event_seen, heard_bytes, reading_seen};
+ghost use Rattle.exchange.specs.Listening.{event_seen, reading_seen};
 
 use super::fault::SessionFault;
 use frames::{Agreed, Block, BlockFault, FrameFault, read_block};
-
-/// The bytes that were heard, if any were.
-fn bytes_of<'a>(heard: Option<&'a [u8]>) -> Result<&'a [u8], FrameFault>
-    ensures { result ≡ heard_bytes heard.entry }
-{
-    match heard {
-        Some(frame) => Ok(frame),
-        None => Err(FrameFault::Silence),
-    }
-}
 
 /// A frame as a block, at a reader of this frame size.
 fn block_in<'a>(frame: &'a [u8], fsd: usize, agreed: Agreed) -> Result<Block<'a>, BlockFault>
@@ -36,7 +26,7 @@ pub fn listen<'a>(
     ensures value { reading_seen result ≡ read_as fsd (agreement agreed) (event_seen heard.entry) }
     ensures valid { IfOk result (λ b. ValidBlock (block_seen b)) }
 {
-    let frame = bytes_of(heard)?;
+    let frame = heard.ok_or(FrameFault::Silence)?;
     let block = block_in(frame, fsd, agreed)?;
     Ok(block)
 }

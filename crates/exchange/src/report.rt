@@ -3,17 +3,10 @@ ghost use Rattle.std.specs.Prelude.{◌≡◌};
 ghost use Rattle.protocol.specs.Reader.{ending_number};
 ghost use Rattle.exchange.specs.Views.{ending_seen};
 
-use frames::{Cause, Layer};
-
-/// No cause since the last fresh frame.
-pub const NO_CAUSE: Cause = Cause {
-    number: 0,
-    place: 0,
-    layer: Layer::Block,
-};
+use frames::Cause;
 
 /// What the reader says of its latest command.
-#[derive(Clone, Copy)]
+#[derive(Clone, Copy, Debug, PartialEq, Eq)]
 pub enum Says {
     /// there is none
     Nothing,
@@ -28,7 +21,7 @@ pub enum Says {
 }
 
 /// The frames of an exchange, by what each was written for.
-#[derive(Clone, Copy)]
+#[derive(Clone, Copy, Debug, PartialEq, Eq)]
 pub struct Totals {
     pub fresh: u32,
     pub repeats: u32,
@@ -36,7 +29,7 @@ pub struct Totals {
 }
 
 /// What an exchange leaves to be told.
-#[derive(Clone, Copy)]
+#[derive(Clone, Copy, Debug, PartialEq, Eq)]
 pub struct Report {
     pub says: Says,
     pub totals: Totals,
@@ -45,8 +38,8 @@ pub struct Report {
 /// Why an exchange, or a waking, ended against the reader's will.
 #[derive(Clone, Copy)]
 pub enum Ending {
-    /// the repeats are spent; the last cause
-    Spent(Cause),
+    /// the repeats are spent; the last cause, if one came since the last fresh frame
+    Spent(Option<Cause>),
     /// a block that breaks the rules
     Broken,
     /// a wait too many

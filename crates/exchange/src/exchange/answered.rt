@@ -1,60 +1,51 @@
-//! What an I-block does. No limit bears on it: its rules have 0 for the limits in their contracts.
-ghost use Rattle.std.specs.Prelude.{◌≡◌, ◌<◌, ◌≤◌, not, ◌++◌, length};
-ghost use Rattle.buffers.specs.Rooms.{answer_room};
+//! What an I-block does. No limit bears on it: its rule has 0 for the limits in its contract.
+ghost use Rattle.std.specs.Prelude.{◌≡◌, Ok, ◌<◌, ◌≤◌, not, length};
 ghost use Rattle.frames.specs.Check.{both};
-ghost use Rattle.frames.specs.Sizes.{greatest_frame};
-ghost use Rattle.protocol.specs.Reader.{running, more, same, on_answer, on_information};
-ghost use Rattle.exchange.specs.Exchanges.{exchange_seen};
-ghost use Rattle.exchange.specs.Links.{link_seen};
-ghost use Rattle.exchange.specs.Moves.{Does};
-ghost use Rattle.exchange.specs.Views.{progress_seen};
+ghost use Rattle.protocol.specs.Reader.{more, same, on_information};
 
-use super::Exchange;
+use super::Running;
+use crate::progress::Progress;
 use crate::report::Ending;
 use crate::turn::Turn;
-use frames::Block;
+use frames::GREATEST_FRAME;
 
-impl Exchange {
-    /// The answer's next block, chaining or last.
-    fn on_answer(&mut self, chaining: bool, information: &[u8], out: &mut [u8]) -> Turn
-        requires running { progress_seen self.old.progress ≡ running }
-        requires some { 0 < length information.now }
-        requires fits { length ((exchange_seen self.old).answer ++ information.now) ≤ answer_room }
-        requires room { greatest_frame ≤ length out.old }
-        ensures { Does (on_answer 0 0 (link_seen self.old.link) (exchange_seen self.old) chaining information.now) self.new result out.old out.new }
-    {
-        if !chaining {
-            self.complete(information);
-            return Turn::Answered {
-                len: self.answer.gathered().len(),
-                report: self.report(),
-            };
-        }
-        self.append(information);
-        let block = Block::acknowledging(false, self.number, self.link.card());
-        Turn::Wrote(self.send(block, out))
-    }
+impl Running {
+    ghost use Rattle.exchange.specs.Moves.{Does};
+    ghost use Rattle.exchange.specs.Runs.{run_link, run_seen};
 
-    /// An I-block: a part of the answer, if its number is equal and the command all sent, unless the answer gets too long.
+    /// An I-block: the answer's next part, if its number is equal and the command all sent, unless the answer gets too
+    /// long. A chaining one is answered with R(ACK), fresh; the last one ends the exchange.
     pub(super) fn on_information(
-        &mut self,
+        self,
         chaining: bool,
         number: bool,
         information: &[u8],
-        out: &mut [u8],
+        out: &mut [u8; GREATEST_FRAME],
     ) -> Turn
-        requires running { progress_seen self.old.progress ≡ running }
         requires some { 0 < length information.now }
-        requires room { greatest_frame ≤ length out.old }
-        ensures { Does (on_information 0 0 (link_seen self.old.link) (exchange_seen self.old) (both (same number self.old.number) (not (more (exchange_seen self.old).rest))) chaining information.now) self.new result out.old out.new }
+        ensures { Does (on_information 0 0 (run_link self) (run_seen self) (both (same number (run_seen self).number) (not (more (run_seen self).rest))) chaining information.now) (Ok result) out.old out.new }
     {
-        if !self.awaits(number) {
+        if number != self.exchange.number || self.exchange.has_more() {
             return self.over(Ending::Broken);
         }
-        if !self.holds(information) {
-            self.show(false, true);
-            return self.over(Ending::AnswerLong);
+        let Running { mut exchange } = self;
+        exchange.came = true;
+        if exchange.answer.append(information).is_err() {
+            return Running { exchange }.over(Ending::AnswerLong);
         }
-        self.on_answer(chaining, information, out)
+        exchange.number = !exchange.number;
+        exchange.stretch = 0;
+        if !chaining {
+            exchange.progress = Progress::Finished;
+            return Turn::Answered {
+                len: exchange.answer.gathered().len(),
+                report: exchange.report(),
+                exchange,
+            };
+        }
+        exchange.totals.fresh += 1;
+        exchange.since = 0;
+        exchange.why = None;
+        Running { exchange }.acknowledge(false, out)
     }
 }
