@@ -60,35 +60,26 @@ begun_with (Some c) f = called (begin c) f
 abbrev pub stop_in : List ℕ → List ℕ → Option Entry
 stop_in field going = cond (both (is_dash field) (is_dash going)) (Some stop) None
 
-pub data Word : Type 0 where
-  begin_word : Word
-  hear_word : Word
-  mute_word : Word
-  spoil_word : Word
-  stop_word : Word
-  close_word : Word
+-- the call without data that a word stands for
+abbrev pub order_in : List ℕ → Option Order
+order_in word =
+    cond (spells (codes "hear") word) (Some hear)
+    (cond (spells (codes "mute") word) (Some mute)
+    (cond (spells (codes "spoil") word) (Some spoil) (cond (spells (codes "close") word) (Some close) None)))
 
-abbrev pub word_in : List ℕ → Option Word
-word_in field =
-    cond (spells (codes "begin") field) (Some begin_word)
-    (cond (spells (codes "hear") field) (Some hear_word)
-    (cond (spells (codes "mute") field) (Some mute_word)
-    (cond (spells (codes "spoil") field) (Some spoil_word)
-    (cond (spells (codes "stop") field) (Some stop_word) (cond (spells (codes "close") field) (Some close_word) None)))))
+abbrev pub bare_with : Option Order → List ℕ → List ℕ → Option Entry
+bare_with None field going = None
+bare_with (Some o) field going = bare_in o field going
 
--- DATA GOING, by the word in front
-abbrev pub by_word : Option Word → Cut → Option Entry
-by_word None k = None
-by_word (Some begin_word) k = begun_with (bytes_in k.first) (fate_in k.rest)
-by_word (Some hear_word) k = bare_in hear k.first k.rest
-by_word (Some mute_word) k = bare_in mute k.first k.rest
-by_word (Some spoil_word) k = bare_in spoil k.first k.rest
-by_word (Some stop_word) k = stop_in k.first k.rest
-by_word (Some close_word) k = bare_in close k.first k.rest
+-- by the word in front, then DATA and GOING
+abbrev pub by_word : List ℕ → List ℕ → List ℕ → Option Entry
+by_word word field going =
+    cond (spells (codes "begin") word) (begun_with (bytes_in field) (fate_in going))
+    (cond (spells (codes "stop") word) (stop_in field going) (bare_with (order_in word) field going))
 
 abbrev pub with_data : List ℕ → Option Cut → Option Entry
 with_data word None = None
-with_data word (Some k) = by_word (word_in word) k
+with_data word (Some k) = by_word word k.first k.rest
 
 -- WORD, then the rest
 abbrev pub behind_word : Option Cut → Option Entry

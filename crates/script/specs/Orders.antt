@@ -7,17 +7,7 @@ use Rattle.script.specs.declared.call.Order as coded
 use Rattle.script.specs.declared.call.Order.TheVariants.{Begin, Hear, Mute, Spoil, Close}
 use Rattle.script.specs.declared.call.Entry as held
 use Rattle.script.specs.declared.call.Entry.TheVariants.{Call, Stop}
-use Rattle.script.specs.declared.call.Word as spoken
-use Rattle.script.specs.declared.call.Word.TheVariants as words
-use Rattle.script.specs.Calls.{Word, begin_word, hear_word, mute_word, spoil_word, stop_word, close_word, Order, begin, hear, mute, spoil, close, Entry, call, stop}
-
-abbrev pub word_seen : spoken.Word → Word
-word_seen words.Begin = begin_word
-word_seen words.Hear = hear_word
-word_seen words.Mute = mute_word
-word_seen words.Spoil = spoil_word
-word_seen words.Stop = stop_word
-word_seen words.Close = close_word
+use Rattle.script.specs.Calls.{Order, begin, hear, mute, spoil, close, Entry, call, stop}
 
 abbrev pub fate_seen : Going → Fate
 fate_seen Whole = whole

@@ -1,6 +1,8 @@
 -- The rows that are printed.
 use Rattle.std.specs.Prelude.{ℕ, List, [], ◌∷◌, ◌++◌, codes, decimal}
+use Rattle.exchange.specs.Views.{says_seen}
 use Rattle.protocol.specs.Reader.{Says, none, done, taken, not_taken, doubt}
+use Rattle.script.specs.declared.row.Row.{Row}
 use Rattle.text.specs.Fields.{◌then◌}
 use Rattle.text.specs.Hex.{shown_bytes}
 
@@ -27,3 +29,7 @@ shown_text frame answer says = shown_bytes frame then shown_bytes answer then (s
 -- a call's row
 abbrev pub row_text : List ℕ → ℕ → List ℕ → List ℕ → Says → List ℕ
 row_text word result frame answer says = result_text word result ++ shown_text frame answer says
+
+-- the row that a value of the crate stands for
+abbrev pub row_shown : Row → List ℕ
+row_shown r = row_text r.word.now r.result r.frame.now r.answer.now (says_seen r.says)

@@ -2,13 +2,9 @@
 #![tactic(auto)]
 
 mod call;
-mod call_reading;
 mod row;
 mod setup;
-mod setup_reading;
 
-pub use call::{Entry, Going, Order};
-pub use call_reading::{entry_in, names_calls};
-pub use row::{entry_word, push_names, push_row};
-pub use setup::{App, Values};
-pub use setup_reading::{names_setup, values_in};
+pub use call::{Entry, Going, Order, entry_in, names_calls};
+pub use row::{Row, push_names, push_row, says_word};
+pub use setup::{App, Values, names_setup, values_in};
