@@ -1,18 +1,11 @@
 -- The calls that the crate's values stand for.
 use Rattle.std.specs.Prelude.{vec_items}
-use Rattle.protocol.specs.Field.{Fate, whole, lost, spoilt}
-use Rattle.script.specs.declared.call.Going.{Going}
-use Rattle.script.specs.declared.call.Going.TheVariants.{Whole, Lost, Spoilt}
+use Rattle.pair.specs.Pairs.{fate_seen}
 use Rattle.script.specs.declared.call.Order as coded
 use Rattle.script.specs.declared.call.Order.TheVariants.{Begin, Hear, Mute, Spoil, Close}
 use Rattle.script.specs.declared.call.Entry as held
 use Rattle.script.specs.declared.call.Entry.TheVariants.{Call, Stop}
 use Rattle.script.specs.Calls.{Order, begin, hear, mute, spoil, close, Entry, call, stop}
-
-abbrev pub fate_seen : Going → Fate
-fate_seen Whole = whole
-fate_seen Lost = lost
-fate_seen Spoilt = spoilt
 
 abbrev pub order_seen : coded.Order → Order
 order_seen (Begin command) = begin (vec_items command)

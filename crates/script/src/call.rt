@@ -1,22 +1,16 @@
 //! The calls of a script.
 ghost use Rattle.std.specs.Prelude.{◌≡◌};
 ghost use Rattle.std.specs.Option.{option_map};
+ghost use Rattle.pair.specs.Pairs.{fate_seen};
 ghost use Rattle.script.specs.Calls.{call_names, fate_in, bare_in, begun_with, stop_in, order_in, by_word, entry_in, order_word, entry_word};
-ghost use Rattle.script.specs.Orders.{fate_seen, order_seen, entry_seen};
+ghost use Rattle.script.specs.Orders.{order_seen, entry_seen};
 ghost use Rattle.text.specs.Hex.{bytes_in};
 ghost use Rattle.text.specs.Reads.{Reads};
 ghost use Rattle.text.specs.Words.{spells};
 
+use pair::Fate;
 use std::alloc::Global;
 use text::{ReadError, bytes_in, cut};
-
-/// The fate of a frame on its way to the card.
-#[derive(Clone, Copy, Debug, PartialEq, Eq)]
-pub enum Going {
-    Whole,
-    Lost,
-    Spoilt,
-}
 
 /// A call that may write a frame.
 #[derive(Drop)]
@@ -34,7 +28,7 @@ pub enum Order {
 /// A call with the fate of the frame that it writes, or stop, which writes none.
 #[derive(Drop)]
 pub enum Entry {
-    Call(Order, Going),
+    Call(Order, Fate),
     Stop,
 }
 
@@ -45,13 +39,13 @@ pub fn names_calls(line: &[u8]) -> bool
     matches!(line, b"call data going")
 }
 
-fn going_in(field: &[u8]) -> Option<Going>
+fn going_in(field: &[u8]) -> Option<Fate>
     ensures { option_map fate_seen result ≡ fate_in field.now }
 {
     match field {
-        b"w" => Some(Going::Whole),
-        b"l" => Some(Going::Lost),
-        b"s" => Some(Going::Spoilt),
+        b"w" => Some(Fate::Whole),
+        b"l" => Some(Fate::Lost),
+        b"s" => Some(Fate::Spoilt),
         _ => None,
     }
 }

@@ -5,6 +5,6 @@ mod call;
 mod row;
 mod setup;
 
-pub use call::{Entry, Going, Order, entry_in, names_calls};
+pub use call::{Entry, Order, entry_in, names_calls};
 pub use row::{Row, push_names, push_row, says_word};
 pub use setup::{App, Values, names_setup, values_in};

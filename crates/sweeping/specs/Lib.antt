@@ -1,11 +1,11 @@
 pub mod Laws
 pub mod OrderViews
 pub mod Orders
-pub mod Places
 pub mod Plans
 pub mod Played
 pub mod RowViews
 pub mod Rows
+pub mod Runs
 pub mod Sweeps
 pub mod Texts
 pub mod Trails

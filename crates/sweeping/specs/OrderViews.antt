@@ -1,20 +1,23 @@
 -- The order that the crate's values stand for.
-use Rattle.std.specs.Prelude.{ℕ, List, Some, None, vec_items, Option}
-use Rattle.std.specs.Borrow.{Bor}
+use Rattle.std.specs.Prelude.{◌≡◌, ℕ, ⊤, Ok, Err, vec_items, Result}
 use Rattle.script.specs.SetupViews.{values_seen}
-use Rattle.text.specs.Lines.{lines_of}
+use Rattle.text.specs.declared.error.ReadError.{ReadError}
+use Rattle.text.specs.declared.error.ReadError.TheVariants as reads
 use Rattle.sweeping.specs.declared.order.Order as held
-use Rattle.sweeping.specs.declared.reading.Reading as coded
-use Rattle.sweeping.specs.declared.reading.Reading.TheVariants.{Ready, Bad}
-use Rattle.sweeping.specs.Orders.{Order, Reading, ready, bad, First}
+use Rattle.sweeping.specs.declared.order.OrderError.{OrderError}
+use Rattle.sweeping.specs.declared.order.OrderError.TheVariants.{Line, OutOfMemory}
+use Rattle.sweeping.specs.Orders.{Order, Reading, ready, bad}
 
 abbrev pub order_seen : held.Order → Order
 order_seen o = record { values = values_seen o.values; command = vec_items o.command; losses = o.losses }
 
-abbrev pub reading_seen : coded.Reading → Reading
-reading_seen (Ready o) = ready (order_seen o)
-reading_seen (Bad n) = bad n
+-- what a line does not give, by the number of the line
+abbrev pub error_at : ℕ → ReadError → OrderError
+error_at n reads.Unreadable = Line n
+error_at n (reads.OutOfMemory e) = OutOfMemory e
 
-abbrev pub first_seen : Option (Bor (List ℕ) × Bor (List ℕ)) → Option First
-first_seen None = None
-first_seen (Some p) = Some (record { line = p.0.now; rest = lines_of p.1.now })
+-- an order is read, or the line is told that cannot be, as the definition has it; unless memory is refused
+abbrev pub ReadsOrder : Reading → Result held.Order OrderError → Type 0
+ReadsOrder due (Ok o) = ready (order_seen o) ≡ due
+ReadsOrder due (Err (Line n)) = bad n ≡ due
+ReadsOrder due (Err (OutOfMemory e)) = ⊤

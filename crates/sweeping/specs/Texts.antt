@@ -4,6 +4,10 @@ use Rattle.script.specs.Rows.{says_text}
 use Rattle.text.specs.Fields.{◌then◌}
 use Rattle.sweeping.specs.Plans.{loss_of}
 use Rattle.sweeping.specs.Rows.{Row}
+use Rattle.sweeping.specs.RowViews.{row_seen}
+use Rattle.sweeping.specs.declared.line.Line as printed
+use Rattle.sweeping.specs.declared.line.Line.TheVariants.{Names, Ended, Sum}
+use Rattle.sweeping.specs.declared.run.Run.{Run}
 use Rattle.sweeping.specs.declared.plan.Loss.{Loss}
 use Rattle.sweeping.specs.declared.plan.Loss.TheVariants.{Whole, Lost, Spoilt, Muted, Noisy}
 use Rattle.sweeping.specs.declared.told.Times.{Times}
@@ -42,10 +46,16 @@ end_text r =
     decimal r.result then decimal r.frames then says_text r.says then (card_text r.times ++ (10 ∷ []))
 
 -- a row: the first turn that suffers a loss, the losses, and how the run ended
-abbrev pub row_text : ℕ → ℕ → ℕ → Row → List ℕ
-row_text turn count code r = decimal turn then word_text count code then end_text r
+abbrev pub row_text : Run → Row → List ℕ
+row_text run r = decimal run.first then word_text run.count run.code then end_text r
 
 -- the last line
 abbrev pub sum_text : ℕ → ℕ → List ℕ
 sum_text runs disagreements =
     codes "runs" then decimal runs then codes "disagreements" then (decimal disagreements ++ (10 ∷ []))
+
+-- the text of a line
+abbrev pub line_text : printed.Line → List ℕ
+line_text Names = names_text
+line_text (Ended run row) = row_text run (row_seen row)
+line_text (Sum runs disagreements) = sum_text runs disagreements

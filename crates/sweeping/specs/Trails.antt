@@ -3,9 +3,10 @@ use Rattle.std.specs.Prelude.{ℕ, zero, suc, ◌+◌, Bool, true, false, cond, 
 use Rattle.card.specs.Told.{was_given}
 use Rattle.frames.specs.Sizes.{greatest_frame}
 use Rattle.pair.specs.Deeds.{Deed, ask, start, begin, hear, Act, step_for}
-use Rattle.pair.specs.Runs.{acted, outcome_of}
+use Rattle.pair.specs.Runs.{acted, outcome_of, ran}
 use Rattle.protocol.specs.Field.{Setup, World, step_from, whole}
 use Rattle.protocol.specs.Reader.{Totals, Outcome, refused, wrote, wakes, active, answered, over, stopped, off, unanswered, fetched, outcome_number}
+use Rattle.trial.specs.Benches.{waking}
 use Rattle.sweeping.specs.Plans.{loss_in, fate_under, turn_of, plan_after}
 use Rattle.sweeping.specs.declared.plan.Plan.{Plan}
 use Rattle.sweeping.specs.declared.told.Times.{Times}
@@ -71,10 +72,9 @@ and_then u w n a =
 abbrev pub unharmed : Deed → Act
 unharmed d = record { deed = d; fate = whole }
 
--- a session that is woken unharmed: ask, hear, start
+-- a session that is woken unharmed, each call with room for the greatest frame
 abbrev pub woken_from : {S : Type 0} → Setup S → World S → World S
-woken_from u w =
-    acted u greatest_frame (acted u greatest_frame (acted u greatest_frame w (unharmed ask)) (unharmed hear)) (unharmed start)
+woken_from u w = ran u greatest_frame w waking
 
 -- A command is begun; its first frame has the fate of the first turn.
 abbrev pub begun : {S : Type 0} → Setup S → World S → List ℕ → Plan → Trail S

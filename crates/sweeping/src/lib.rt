@@ -2,18 +2,23 @@
 #![tactic(auto)]
 
 mod laws;
+mod line;
 mod order;
-mod place;
 mod plan;
 mod play;
-mod printing;
 mod reading;
 mod row;
+mod run;
 mod set_up;
 mod sweep;
 mod told;
 
 pub use laws::{rows_are_runs, rows_are_true};
-pub use order::Order;
-pub use reading::{Reading, read_order};
+pub use line::Line;
+pub use order::{Order, OrderError};
+pub use plan::{Loss, Plan};
+pub use reading::read_order;
+pub use row::Row;
+pub use run::Run;
 pub use sweep::Sweep;
+pub use told::Times;

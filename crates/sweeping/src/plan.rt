@@ -3,10 +3,11 @@ ghost use Rattle.std.specs.Prelude.{◌≡◌};
 ghost use Rattle.pair.specs.Pairs.{fate_seen, deed_seen};
 ghost use Rattle.sweeping.specs.Plans.{loss_of, loss_in, plan_after, fate_under, deed_under};
 
-use pair::{Call, Fate};
+use pair::{Call, Fate, NOISE};
 
-/// What happens to a turn: a frame written, and what is heard after it.
-#[derive(Clone, Copy)]
+/// What happens to a turn: a frame written, and what is heard after it. (No loss is one of the five: each of them has a fate, something
+/// heard and a letter, so an Option would be taken apart three times.)
+#[derive(Clone, Copy, Debug, PartialEq, Eq)]
 pub enum Loss {
     /// nothing is lost
     Whole,
@@ -20,16 +21,14 @@ pub enum Loss {
     Noisy,
 }
 
-/// So many whole turns, then so many losses, the digits of a number to base 4, the lowest first; whole turns after them.
-#[derive(Clone, Copy)]
+/// So many whole turns, then so many losses, the digits of a number to base 4, the lowest first; whole turns after them. (The table
+/// counts through these numbers, so they are no list of losses.)
+#[derive(Clone, Copy, Debug, PartialEq, Eq)]
 pub struct Plan {
     pub before: usize,
     pub count: usize,
     pub code: usize,
 }
-
-/// What is heard as noise: three bytes that fail the check.
-static NOISE: [u8; 3] = [0, 0, 0];
 
 impl Loss {
     /// The loss that a digit stands for.
@@ -88,8 +87,7 @@ impl Plan {
         if self.before > 0 {
             return Plan {
                 before: self.before - 1,
-                count: self.count,
-                code: self.code,
+                ..self
             };
         }
         if self.count == 0 {

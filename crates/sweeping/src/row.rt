@@ -8,19 +8,17 @@ ghost use Rattle.sweeping.specs.RowViews.{row_seen};
 ghost use Rattle.sweeping.specs.Rows.{row_for, row_of, row_played, unplayed, disagrees};
 
 use super::plan::Plan;
-use super::play::{begin, drive, wake};
+use super::play::{begin, drive};
 use super::told::Times;
 use applications::{Application, Metre, Yarn};
 use exchange::Says;
+use frames::GREATEST_FRAME;
 use pair::Pair;
 use script::{App, Values};
-use trial::{card_settings, reader_settings};
-
-/// More turns than an exchange can have.
-const MOST_TURNS: usize = 100000;
+use trial::{card_settings, reader_settings, wake};
 
 /// How an exchange ended, the frames written, what the reader says, and how often the application was given the command.
-#[derive(Clone, Copy)]
+#[derive(Clone, Copy, Debug, PartialEq, Eq)]
 pub struct Row {
     pub result: u8,
     pub frames: usize,
@@ -44,9 +42,9 @@ fn unplayed() -> Row
 fn play_out<A: Application>(pair: &mut Pair<A>, command: &[u8], plan: Plan) -> Row
     ensures { row_seen result ≡ row_played (setup_seen A.Application.model pair.old) (world_seen pair.old) command.now plan }
 {
-    wake(pair);
+    wake(pair, &mut [0; GREATEST_FRAME]);
     let tally = begin(pair, command, plan);
-    let tally = drive(pair, tally, plan, MOST_TURNS);
+    let tally = drive(pair, tally, plan);
     Row {
         result: tally.told.result,
         frames: tally.told.frames,
@@ -66,7 +64,7 @@ fn play<A: Application + Drop>(values: Values, application: A, command: &[u8], p
 }
 
 /// One exchange with the application that the set-up names.
-pub fn run(values: Values, command: &[u8], plan: Plan) -> Row
+pub fn played(values: Values, command: &[u8], plan: Plan) -> Row
     ensures { row_seen result ≡ row_of (values_seen values) command.now plan }
 {
     match values.app {
@@ -80,12 +78,11 @@ impl Row {
     pub fn disagrees(self) -> bool
         ensures { result ≡ disagrees (says_seen self.says) self.times }
     {
-        match (self.says, self.times) {
-            (_, Times::Oftener) => true,
-            (Says::Done, Times::Never) => true,
-            (Says::Taken, Times::Never) => true,
-            (Says::NotTaken, Times::Once) => true,
-            _ => false,
-        }
+        matches!(
+            (self.says, self.times),
+            (_, Times::Oftener)
+                | (Says::Done | Says::Taken, Times::Never)
+                | (Says::NotTaken, Times::Once)
+        )
     }
 }

@@ -5,10 +5,11 @@ ghost use Rattle.pair.specs.Answers.{answer_seen};
 ghost use Rattle.sweeping.specs.Trails.{written, frames_in, writes, told_of, onwards};
 
 use exchange::Totals;
-use pair::Outcome;
+use pair::{Answer, Outcome};
 
-/// The number of the outcome, the frames that it counts, and whether the exchange goes on.
-#[derive(Clone, Copy)]
+/// The number of the outcome, the frames that it counts, and whether the exchange goes on. (No Option: a row reads both numbers also of an
+/// exchange that is cut while it goes on.)
+#[derive(Clone, Copy, Debug, PartialEq, Eq)]
 pub struct Told {
     pub result: u8,
     pub frames: usize,
@@ -16,7 +17,7 @@ pub struct Told {
 }
 
 /// How often the application was given a command.
-#[derive(Clone, Copy)]
+#[derive(Clone, Copy, Debug, PartialEq, Eq)]
 pub enum Times {
     Never,
     Once,
@@ -30,33 +31,29 @@ fn written(totals: Totals) -> usize
     totals.fresh as usize + totals.repeats as usize + totals.waits as usize
 }
 
-fn frames_in(outcome: &Outcome) -> usize
-    ensures { (buffer : List ℕ) → result ≡ frames_in (answer_seen outcome.now buffer) }
+fn frames_in(answer: &Answer) -> usize
+    ensures { (buffer : List ℕ) → result ≡ frames_in (answer_seen answer.now.outcome buffer) }
 {
-    match outcome {
-        Outcome::Answered { report, .. } => written(report.totals),
-        Outcome::Over { report, .. } => written(report.totals),
+    match &answer.outcome {
+        Ok(Outcome::Answered { report, .. } | Outcome::Over { report, .. }) => written(report.totals),
         _ => 0,
     }
 }
 
-fn goes_on(outcome: &Outcome) -> bool
-    ensures { (buffer : List ℕ) → result ≡ writes (answer_seen outcome.now buffer) }
+fn goes_on(answer: &Answer) -> bool
+    ensures { (buffer : List ℕ) → result ≡ writes (answer_seen answer.now.outcome buffer) }
 {
-    match outcome {
-        Outcome::Wrote(_) => true,
-        _ => false,
-    }
+    matches!(&answer.outcome, Ok(Outcome::Wrote(_)))
 }
 
-impl Told {
-    pub fn of(outcome: &Outcome) -> Told
-        ensures { (buffer : List ℕ) → result ≡ told_of (answer_seen outcome.now buffer) }
-    {
+impl From<&Answer> for Told {
+    ghost from_gives = { λ answer told. (buffer : List ℕ) → told ≡ told_of (answer_seen answer.now.outcome buffer) };
+
+    fn from(answer: &Answer) -> Told {
         Told {
-            result: outcome.number(),
-            frames: frames_in(outcome),
-            goes_on: goes_on(outcome),
+            result: answer.number(),
+            frames: frames_in(answer),
+            goes_on: goes_on(answer),
         }
     }
 }

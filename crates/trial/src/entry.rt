@@ -1,24 +1,13 @@
 //! One entry of a script, as a step of a pair.
 ghost use Rattle.std.specs.Prelude.{◌≡◌};
-ghost use Rattle.pair.specs.Pairs.{deed_seen, fate_seen};
+ghost use Rattle.pair.specs.Pairs.{deed_seen};
 ghost use Rattle.pair.specs.Records.{step_seen};
-ghost use Rattle.script.specs.Orders.{order_seen, entry_seen, fate_seen as going_seen};
+ghost use Rattle.script.specs.Orders.{order_seen, entry_seen};
 ghost use Rattle.trial.specs.Benches.{deed_of, act_of};
 ghost use Rattle.trial.specs.Rows.{without_check};
 
 use pair::{Call, Fate, NOISE, Step};
-use script::{Entry, Going, Order};
-
-/// The crates `script` and `pair` know nothing of each other, so each has its own word for this.
-fn fate_of(going: Going) -> Fate
-    ensures { fate_seen result ≡ going_seen going }
-{
-    match going {
-        Going::Whole => Fate::Whole,
-        Going::Lost => Fate::Lost,
-        Going::Spoilt => Fate::Spoilt,
-    }
-}
+use script::{Entry, Order};
 
 fn order_call<'a>(order: &'a Order) -> Call<'a>
     ensures { deed_seen result ≡ deed_of (order_seen order.now) }
@@ -37,9 +26,9 @@ pub fn step_of<'a>(entry: &'a Entry) -> Step<'a>
     ensures { step_seen result ≡ act_of (entry_seen entry.now) }
 {
     match entry {
-        Entry::Call(order, going) => Step {
+        Entry::Call(order, fate) => Step {
             call: order_call(order),
-            fate: fate_of(*going),
+            fate: *fate,
         },
         Entry::Stop => Step {
             call: Call::GiveUp,
