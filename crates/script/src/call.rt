@@ -19,7 +19,7 @@ pub enum Going {
 }
 
 /// A call that may write a frame.
-#[derive(Drop)]
+#[derive(Debug, PartialEq, Eq, Drop)]
 pub enum Order {
     Begin(Vec<u8>),
     /// the card's reply is heard, or silence where there is none
@@ -32,7 +32,7 @@ pub enum Order {
 }
 
 /// A call with the fate of the frame that it writes, or stop, which writes none.
-#[derive(Drop)]
+#[derive(Debug, PartialEq, Eq, Drop)]
 pub enum Entry {
     Call(Order, Going),
     Stop,
