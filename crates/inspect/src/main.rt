@@ -5,6 +5,7 @@ use inspection::push_output;
 use std::io;
 use std::io::{Read, Write};
 
+// These lines stand in `bench` and `bench_vectors` too: of a public function in their place no clause could say what it prints.
 fn main(rt: HostRuntime) -> io::Result<()> {
     let alloc = rt.alloc();
     let mut input = Vec::new(alloc);

@@ -13,7 +13,7 @@ use std::alloc::Global;
 use text::{ReadError, bytes_in, cut};
 
 /// A call that may write a frame.
-#[derive(Drop)]
+#[derive(Debug, PartialEq, Eq, Drop)]
 pub enum Order {
     Begin(Vec<u8>),
     /// the card's reply is heard, or silence where there is none
@@ -26,7 +26,7 @@ pub enum Order {
 }
 
 /// A call with the fate of the frame that it writes, or stop, which writes none.
-#[derive(Drop)]
+#[derive(Debug, PartialEq, Eq, Drop)]
 pub enum Entry {
     Call(Order, Fate),
     Stop,

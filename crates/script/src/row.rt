@@ -9,7 +9,7 @@ use std::fmt::Write;
 use text::Hex;
 
 /// What a call did: its word and result, the frame that it wrote, the answer that it ended with, and what the reader says.
-#[derive(Clone, Copy)]
+#[derive(Clone, Copy, Debug, PartialEq, Eq)]
 pub struct Row<'a> {
     pub word: &'a str,
     pub result: usize,

@@ -82,6 +82,7 @@ impl<'a> fmt::Display for Hex<'a> {
         if self.0.is_empty() {
             return write!(f, "-");
         }
+        // 32 bytes at a time: with `{b:02X}` for each byte, `inspect` takes 3.4 times as many instructions on frames of 200 bytes
         for part in self.0.chunks(32) {
             f.write_str(digits_of(part, &mut [0; 64]))?;
         }
