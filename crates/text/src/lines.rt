@@ -1,39 +1,36 @@
 //! Lines of a text.
-ghost use Rattle.std.specs.Prelude.{◌≡◌, ℕ, ◌≤◌, List, length, Some};
-ghost use Rattle.std.specs.Iterator.{YieldsFirstRef, item_count};
+ghost use Rattle.std.specs.Prelude.{◌≡◌, ◌^◌, ◌<◌, length, Some};
 ghost use Rattle.text.specs.Lines.{lines_of, bad_text};
 
 use super::words::split_once;
 use std::fmt;
-use std::marker::Model;
 
-/// The lines of a text, each without its line break, seen as the list of those that are left.
-#[derive(Drop)]
+/// The lines of a text, each without its line break.
+#[derive(Clone, Copy)]
 pub struct Lines<'a> {
     rest: &'a [u8],
-}
-
-impl<'a> Model for Lines<'a> {
-    ghost Value = { List (List ℕ) };
-
-    ghost view = { λ l. lines_of l.rest.now };
+    ghost countable: { length (lines_of rest.now) < 2 ^ 64 },
 }
 
 impl<'a> Lines<'a> {
+    ghost use Rattle.text.specs.LineViews.{lines_left};
+
     pub fn new(text: &'a [u8]) -> Self
-        ensures lines { result ≡ lines_of text.now }
-        ensures count { length result ≤ length text.now }
+        ensures { lines_left result ≡ lines_of text.now }
     {
         Lines { rest: text }
     }
 }
 
 impl<'a> Iterator for Lines<'a> {
+    ghost use Rattle.std.specs.Iterator.{YieldsFirstRef, item_count};
+    ghost use Rattle.text.specs.LineViews.{lines_left};
+
     type Item = &'a [u8];
 
-    ghost next_gives = { YieldsFirstRef (λ left. left) };
+    ghost next_gives = { YieldsFirstRef lines_left };
 
-    ghost remaining = { item_count (λ left. left) };
+    ghost remaining = { item_count lines_left };
 
     fn next(&mut self) -> Option<&'a [u8]> {
         if self.rest.is_empty() {

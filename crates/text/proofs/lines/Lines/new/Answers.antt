@@ -1,5 +1,6 @@
+use Rattle.std.proofs.Common.{arith}
 use Rattle.text.proofs.Breaks.{length-lines_of}
 use Rattle.text.proofs.lines.Lines.new.Goals as goal
 
-pub returns-clause-count : goal.returns-clause-count
-returns-clause-count c = length-lines_of c.args.text.now
+pub invariant_of-result : goal.invariant_of-result
+invariant_of-result c = record { countable = omega (arith, length-lines_of c.args.text.now) }
