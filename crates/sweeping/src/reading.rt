@@ -31,17 +31,23 @@ pub fn read_order(alloc: Global, text: &[u8]) -> Result<Order, OrderError>
     ensures { ReadsOrder (from_first (first_in (lines_of text.now))) result }
 {
     let mut lines = Lines::new(text);
-    if !lines.next().is_some_and(names_setup) {
+    if !lines.next().is_some_and(|line| names_setup(line)) {
         return Err(OrderError::Line(1));
     }
-    let values = lines.next().and_then(values_in).ok_or(OrderError::Line(2))?;
+    let values = lines
+        .next()
+        .and_then(|line| values_in(line))
+        .ok_or(OrderError::Line(2))?;
     if !in_range(values) {
         return Err(OrderError::Line(2));
     }
     if lines.next() != Some(b"command losses".as_slice()) {
         return Err(OrderError::Line(3));
     }
-    let (command, losses) = lines.next().and_then(cut).ok_or(OrderError::Line(4))?;
+    let (command, losses) = lines
+        .next()
+        .and_then(|line| cut(line))
+        .ok_or(OrderError::Line(4))?;
     let command = bytes_in(alloc, command).map_err(|why| OrderError::at(4, why))?;
     if !is_command(&command) {
         return Err(OrderError::Line(4));

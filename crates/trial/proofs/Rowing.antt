@@ -10,8 +10,8 @@ use Rattle.pair.specs.Pairs.{deed_seen, fate_seen, act_seen, world_seen, setup_s
 use Rattle.pair.specs.declared.Answer.{Answer}
 use Rattle.pair.specs.declared.Call.{Call}
 use Rattle.pair.specs.declared.Fate.{Fate}
-use Rattle.pair.specs.declared.Outcome.{Outcome}
-use Rattle.pair.specs.declared.Outcome.TheVariants.{Wrote, Answered}
+use Rattle.stages.specs.declared.Outcome.{Outcome}
+use Rattle.stages.specs.declared.Outcome.TheVariants.{Wrote, Answered}
 use Rattle.pair.specs.declared.Pair.{Pair}
 use Rattle.protocol.specs.Reader.{outcome_number, says as says_in}
 use Rattle.script.specs.Calls.{Entry, entry_word}

@@ -3,8 +3,8 @@ use Rattle.std.proofs.Common.{◌≡◌, ℕ, List, [], refl}
 use Rattle.exchange.specs.declared.Report.{Report}
 use Rattle.exchange.specs.declared.Sent.{Sent}
 use Rattle.pair.specs.Answers.{answer_seen}
-use Rattle.pair.specs.declared.Outcome.{Outcome}
-use Rattle.pair.specs.declared.Outcome.TheVariants.{Refused, Wrote, Wakes, Active, Answered, Over, Stopped, Off, Unanswered, Fetched}
+use Rattle.stages.specs.declared.Outcome.{Outcome}
+use Rattle.stages.specs.declared.Outcome.TheVariants.{Refused, Wrote, Wakes, Active, Answered, Over, Stopped, Off, Unanswered, Fetched}
 use Rattle.protocol.specs.Field.{Setup, World}
 use Rattle.trial.specs.Rows.{frame_in, answer_at, copied}
 

@@ -2,6 +2,7 @@
 ghost use Rattle.std.specs.Prelude.{◌≡◌, ◌++◌, OnOk, string_bytes};
 ghost use Rattle.pair.specs.Pairs.{world_seen, setup_seen};
 ghost use Rattle.script.specs.SetupViews.{values_seen, chosen_seen};
+ghost use Rattle.text.specs.LineViews.{lines_left};
 ghost use Rattle.trial.specs.Outputs.{calls_shown, bench_shown, chosen_shown, output};
 
 use super::bench::set_up;
@@ -20,7 +21,7 @@ fn push_calls<A: Application>(
     out: &mut String,
     mut lines: Lines<'_>,
 ) -> Result<(), AllocError>
-    ensures { OnOk result (string_bytes out.new ≡ string_bytes out.old ++ calls_shown (setup_seen A.Application.model pair.old) (world_seen pair.old) lines.entry) }
+    ensures { OnOk result (string_bytes out.new ≡ string_bytes out.old ++ calls_shown (setup_seen A.Application.model pair.old) (world_seen pair.old) (lines_left lines.entry)) }
 {
     match lines.next() {
         Some(line) if names_calls(line) => {
@@ -39,7 +40,7 @@ fn push_bench<A: Application + Drop>(
     out: &mut String,
     lines: Lines<'_>,
 ) -> Result<(), AllocError>
-    ensures { OnOk result (string_bytes out.new ≡ string_bytes out.old ++ bench_shown A.Application.model (values_seen values) application lines) }
+    ensures { OnOk result (string_bytes out.new ≡ string_bytes out.old ++ bench_shown A.Application.model (values_seen values) application (lines_left lines.entry)) }
 {
     match set_up(values, application) {
         Ok(mut pair) => push_calls(alloc, &mut pair, out, lines),
@@ -54,7 +55,7 @@ fn push_chosen(
     out: &mut String,
     lines: Lines<'_>,
 ) -> Result<(), AllocError>
-    ensures { OnOk result (string_bytes out.new ≡ string_bytes out.old ++ chosen_shown (chosen_seen values.app) (values_seen values) lines) }
+    ensures { OnOk result (string_bytes out.new ≡ string_bytes out.old ++ chosen_shown (chosen_seen values.app) (values_seen values) (lines_left lines.entry)) }
 {
     match values.app {
         App::Metre(count) => push_bench(alloc, values, Metre::new(count), out, lines),
@@ -67,10 +68,10 @@ pub fn push_output(alloc: Global, out: &mut String, input: &[u8]) -> Result<(), 
     ensures { OnOk result (string_bytes out.new ≡ string_bytes out.old ++ output input.now) }
 {
     let mut lines = Lines::new(input);
-    if !lines.next().is_some_and(names_setup) {
+    if !lines.next().is_some_and(|line| names_setup(line)) {
         return write!(out, "{}", BadLine(1));
     }
-    match lines.next().and_then(values_in) {
+    match lines.next().and_then(|line| values_in(line)) {
         Some(values) => push_chosen(alloc, values, out, lines),
         None => write!(out, "{}", BadLine(2)),
     }

@@ -2,6 +2,7 @@
 ghost use Rattle.std.specs.Prelude.{◌≡◌, ◌++◌, OnOk, string_bytes};
 ghost use Rattle.script.specs.Orders.{entry_seen};
 ghost use Rattle.text.specs.Reads.{Reads};
+ghost use Rattle.text.specs.LineViews.{lines_left};
 ghost use Rattle.trial.specs.Outputs.{entry_at, rows_from, first_call};
 ghost use Rattle.pair.specs.Pairs.{world_seen, setup_seen};
 ghost use Rattle.trial.specs.Played.{Rowed, Fetches};
@@ -89,7 +90,7 @@ pub fn push_rows<A: Application>(
     out: &mut String,
     calls: Lines<'_>,
 ) -> Result<(), AllocError>
-    ensures { OnOk result (string_bytes out.new ≡ string_bytes out.old ++ rows_from (setup_seen A.Application.model pair.old) (world_seen pair.old) first_call calls) }
+    ensures { OnOk result (string_bytes out.new ≡ string_bytes out.old ++ rows_from (setup_seen A.Application.model pair.old) (world_seen pair.old) first_call (lines_left calls.entry)) }
 {
     for (i, line) in calls.enumerate() {
         match entry_at(alloc, FIRST_CALL + i, line) {
