@@ -1,5 +1,2 @@
-pub mod Acting
 pub mod Heads
 pub mod Looping
-pub mod Rowing
-pub mod Showing
