@@ -1,4 +1,3 @@
 pub mod Drives
-pub mod Letters
 pub mod Running
 pub mod Truth

@@ -33,6 +33,7 @@ fn letter(loss: Loss) -> char
 }
 
 /// A letter for each loss of a run; a dash where there is none.
+#[derive(Clone, Copy)]
 struct Word(Run);
 
 impl fmt::Display for Word {

@@ -1,4 +1,0 @@
-use Rattle.sweeping.proofs.play.+drive.Given as goal
-
-abbrev pub decreases-drive : goal.decreases-drive
-decreases-drive g l = l.left

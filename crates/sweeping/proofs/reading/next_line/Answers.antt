@@ -1,9 +1,0 @@
-use Rattle.std.proofs.Common.{sym, ap, true-eqb}
-use Rattle.std.proofs.lemmas.List.{nil_from_length}
-use Rattle.text.specs.Lines.{lines_of}
-use Rattle.sweeping.specs.Orders.{first_in}
-use Rattle.sweeping.proofs.reading.next_line.Goals as goal
-
-pub returns-then-is_empty : goal.returns-then-is_empty
-returns-then-is_empty c =
-    ap (λ l. first_in (lines_of l)) (sym (nil_from_length c.args.text.now (true-eqb _ 0 c.if-is_empty.ensures)))
