@@ -3,14 +3,14 @@ ghost use Rattle.std.specs.Prelude.{◌≡◌, ◌≤◌, true, length, if◌the
 ghost use Rattle.activation.specs.Ats.{ats_of};
 ghost use Rattle.buffers.specs.Over.{over};
 ghost use Rattle.frames.specs.Check.{seal};
-ghost use Rattle.frames.specs.Sizes.{size_of, greatest_frame};
+ghost use Rattle.frames.specs.Sizes.{size_of};
 ghost use Rattle.frames.specs.Views.{agreement};
 ghost use Rattle.protocol.specs.Card.{card_agreed};
 ghost use Rattle.protocol.specs.Settings.{ats_for};
 ghost use Rattle.card.specs.Held.{settings_of, settings_good};
 
 use activation::{Ats, GREATEST_CODE, size_of_code, write_ats};
-use frames::Agreed;
+use frames::{Agreed, GREATEST_FRAME};
 
 /// The most historical bytes in the card's ATS.
 pub const LONGEST_HISTORICAL: usize = 9;
@@ -77,9 +77,8 @@ impl CardSettings {
     }
 
     /// Writes the card's ATS, and answers the frame's length.
-    pub(crate) fn write_ats(&self, out: &mut [u8]) -> Option<usize>
-        requires range { settings_good self.now ≡ true }
-        requires room { greatest_frame ≤ length out.old }
+    pub(crate) fn write_ats(&self, out: &mut [u8; GREATEST_FRAME]) -> Option<usize>
+        requires { settings_good self.now ≡ true }
         ensures value { result ≡ Some (length (seal (ats_of (ats_for (settings_of self.now))))) }
         ensures bytes { out.new ≡ over (seal (ats_of (ats_for (settings_of self.now)))) out.old }
     {
