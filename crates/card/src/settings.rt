@@ -25,8 +25,10 @@ const TA_ZERO: u8 = 0x08;
 const CARD_NUMBERS: u8 = 0x02;
 
 /// The code of the card's frame size, the codes of its waiting and guard time, the divisors that it offers, whether it
-/// supports card numbers, and its historical bytes: the first `historical_len` of `historical`.
-#[derive(Clone, Copy, Drop)]
+/// supports card numbers, and its historical bytes: the first `historical_len` of `historical`. These are two fields, since a
+/// type that holds no more than 9 bytes is narrower: it would take the refusal of a longer count from `Card::new`, and each
+/// settings literal would have to unwrap it.
+#[derive(Clone, Copy, Debug, PartialEq, Eq)]
 pub struct CardSettings {
     pub fsci: u8,
     pub fwi: u8,
