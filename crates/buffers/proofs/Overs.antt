@@ -1,7 +1,7 @@
 -- Laws of buffers that bytes are put into.
 use Rattle.std.proofs.Common.{◌≡◌, ℕ, ◌+◌, ◌-◌, ◌≤◌, List, [], ◌++◌, length, take, drop, sym, refl, ap, ◌∙◌, ap₂, append_assoc, append-nil, arith, length-append, length-drop}
 use borrow.Rule.Slice.PartMut.{put_mid}
-use Rattle.std.proofs.lemmas.List.{take_at, take_rest, drop_all, drop_at, drop-drop, length-take-le}
+use Rattle.std.proofs.lemmas.List.{take_at, take_rest, drop_all, drop_at, drop-drop, drop-append-le, length-take-le, take-append-drop}
 use Rattle.std.proofs.lemmas.Slice.{drop-append-drop}
 use Rattle.buffers.specs.Over.{over, over_at}
 
@@ -49,3 +49,12 @@ take-over bytes old n e = take_at bytes (drop (length bytes) old) n (sym e)
 -- bytes put over fewer ones
 pub over_again : (bytes fewer old : List ℕ) → length fewer ≤ length bytes → over bytes (over fewer old) ≡ over bytes old
 over_again bytes fewer old h = ap (λ l. bytes ++ l) (drop-append-drop (length fewer) old fewer (length bytes) h refl)
+
+-- bytes put over the first n are put over the whole
+pub over_front : (n : ℕ) (bytes old : List ℕ) → n ≤ length old → length bytes ≤ n → over bytes (take n old) ++ drop n old ≡ over bytes old
+over_front n bytes old long few =
+    let whole = length-take-le n old long in
+    let inside : length bytes ≤ length (take n old) = omega arith in
+    append_assoc bytes (drop (length bytes) (take n old)) (drop n old)
+    ∙ ap (λ l. bytes ++ l)
+    (sym (drop-append-le (length bytes) (take n old) (drop n old) inside) ∙ ap (drop (length bytes)) (take-append-drop n old))

@@ -3,3 +3,4 @@ mod FitBlocks
 mod Keeping
 mod Lifts
 mod Valid
+mod Widening

@@ -8,7 +8,7 @@ use crate::response::Response;
 use crate::settings::CardSettings;
 use crate::state::CardState;
 use applications::Application;
-use frames::{GREATEST_FRAME, Refusal};
+use frames::Refusal;
 
 /// An application, the card's settings, and its stage.
 #[derive(Drop)]
@@ -45,9 +45,9 @@ impl<A: Application> Card<A> {
         ensures settings { self.new.settings ≡ self.old.settings }
         ensures bytes { out.new ≡ buffer_heard (move_at A.Application.model self.old frame.now) (length out.old) out.old }
     {
-        if out.len() < GREATEST_FRAME {
+        let Some(out) = out.first_chunk_mut() else {
             return Err(Refusal::Buffer);
-        }
+        };
         let taken = self
             .state
             .take(&self.settings, &mut self.application, frame);

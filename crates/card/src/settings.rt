@@ -3,14 +3,14 @@ ghost use Rattle.std.specs.Prelude.{◌≡◌, ◌≤◌, true, length, if◌the
 ghost use Rattle.activation.specs.Ats.{ats_of};
 ghost use Rattle.buffers.specs.Over.{over};
 ghost use Rattle.frames.specs.Check.{seal};
-ghost use Rattle.frames.specs.Sizes.{size_of, greatest_frame};
+ghost use Rattle.frames.specs.Sizes.{size_of};
 ghost use Rattle.frames.specs.Views.{agreement};
 ghost use Rattle.protocol.specs.Card.{card_agreed};
 ghost use Rattle.protocol.specs.Settings.{ats_for};
 ghost use Rattle.card.specs.Held.{settings_of, settings_good};
 
 use activation::{Ats, GREATEST_CODE, size_of_code, write_ats};
-use frames::Agreed;
+use frames::{Agreed, GREATEST_FRAME};
 
 /// The most historical bytes in the card's ATS.
 pub const LONGEST_HISTORICAL: usize = 9;
@@ -25,8 +25,10 @@ const TA_ZERO: u8 = 0x08;
 const CARD_NUMBERS: u8 = 0x02;
 
 /// The code of the card's frame size, the codes of its waiting and guard time, the divisors that it offers, whether it
-/// supports card numbers, and its historical bytes: the first `historical_len` of `historical`.
-#[derive(Clone, Copy, Drop)]
+/// supports card numbers, and its historical bytes: the first `historical_len` of `historical`. These are two fields, since a
+/// type that holds no more than 9 bytes is narrower: it would take the refusal of a longer count from `Card::new`, and each
+/// settings literal would have to unwrap it.
+#[derive(Clone, Copy, Debug, PartialEq, Eq)]
 pub struct CardSettings {
     pub fsci: u8,
     pub fwi: u8,
@@ -77,9 +79,8 @@ impl CardSettings {
     }
 
     /// Writes the card's ATS, and answers the frame's length.
-    pub(crate) fn write_ats(&self, out: &mut [u8]) -> Option<usize>
-        requires range { settings_good self.now ≡ true }
-        requires room { greatest_frame ≤ length out.old }
+    pub(crate) fn write_ats(&self, out: &mut [u8; GREATEST_FRAME]) -> Option<usize>
+        requires { settings_good self.now ≡ true }
         ensures value { result ≡ Some (length (seal (ats_of (ats_for (settings_of self.now))))) }
         ensures bytes { out.new ≡ over (seal (ats_of (ats_for (settings_of self.now)))) out.old }
     {

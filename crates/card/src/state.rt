@@ -11,7 +11,7 @@ use crate::taken::{Sends, Taken};
 use crate::writing::write_fit;
 use activation::{read_rats, write_pps_answer};
 use applications::Application;
-use frames::Block;
+use frames::{Block, GREATEST_FRAME};
 use std::mem;
 
 /// Before RATS, awake, and after deselect.
@@ -96,13 +96,13 @@ impl CardState {
         &self,
         settings: &CardSettings,
         taken: Taken,
-        out: &mut [u8],
+        out: &mut [u8; GREATEST_FRAME],
     ) -> Option<usize>
         requires range { settings_good settings.now ≡ true }
         requires fit { FitCard (card_of self.now) }
-        requires room { greatest_frame ≤ length out.old }
         ensures value { result ≡ reply_length (reply_for (settings_of settings.now) (card_of self.now) taken.sends) }
         ensures bytes { out.new ≡ replied (reply_for (settings_of settings.now) (card_of self.now) taken.sends) out.old }
+        ensures whole { length out.new ≡ greatest_frame }
     {
         match taken.sends? {
             Sends::Ats => settings.write_ats(out),

@@ -1,8 +1,9 @@
 -- What a turn does in a part of a buffer, and which rules no limit bears on.
-use Rattle.std.proofs.Common.{◌≡◌, ℕ, ◌≤◌, Bool, true, false, List, ◌++◌, length, take, drop, Ok, Err, Result, sym, refl, ap, ◌∙◌, subst, append_assoc, arith, length-append}
+use Rattle.std.proofs.Common.{◌≡◌, ℕ, ◌≤◌, Bool, true, false, List, ◌++◌, length, take, drop, Ok, Err, Result, sym, refl, ap, ◌∙◌, subst, arith, length-append}
 use Rattle.std.specs.Array.{IsFirstChunk}
 use Rattle.std.proofs.lemmas.Bool.Decides.{nat_tests}
-use Rattle.std.proofs.lemmas.List.{drop-append-le, length-take, length-take-le, take-append-drop, take-append-le}
+use Rattle.std.proofs.lemmas.List.{length-take, take-append-drop, take-append-le}
+use Rattle.buffers.proofs.Overs.{over_front}
 use Rattle.buffers.specs.Over.{over}
 use Rattle.frames.specs.Refusals.{length_refused}
 use Rattle.frames.specs.Sizes.{greatest_frame}
@@ -20,15 +21,6 @@ pub no_limit : (repeats waits : ℕ) (l : Link) (x : Exchange) (awaited chaining
 no_limit repeats waits l x true true info = refl
 no_limit repeats waits l x true false info = refl
 no_limit repeats waits l x false chaining info = refl
-
--- a frame at the front of a buffer's first n bytes stands at the front of the buffer
-over_front : (n : ℕ) (f old : List ℕ) → n ≤ length old → length f ≤ n → over f (take n old) ++ drop n old ≡ over f old
-over_front n f old long few =
-    let whole = length-take-le n old long in
-    let inside : length f ≤ length (take n old) = omega arith in
-    append_assoc f (drop (length f) (take n old)) (drop n old)
-    ∙ ap (λ l. f ++ l)
-    (sym (drop-append-le (length f) (take n old) (drop n old) inside) ∙ ap (drop (length f)) (take-append-drop n old))
 
 module _ (n : ℕ) (old front new : List ℕ) (first : IsFirstChunk old front n) (whole : length new ≡ n) where
   pub kept : new ≡ front → new ++ drop n old ≡ old

@@ -118,7 +118,7 @@ impl Exchange {
         self.stretch = 0;
         self.other = false;
         self.came = false;
-        Ok(Running::new(self))
+        Ok(Running { exchange: self })
     }
 
     /// The link that the exchange goes over.

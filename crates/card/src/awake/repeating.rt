@@ -1,11 +1,10 @@
 //! The last block of an awake card, written from what the card keeps of it.
 ghost use Rattle.std.specs.Prelude.{◌≡◌, ◌≤◌, length};
-ghost use Rattle.frames.specs.Sizes.{greatest_frame};
 
 use super::AwakeCard;
 use crate::last::LastBlock;
 use crate::writing::write_fit;
-use frames::Block;
+use frames::{Block, GREATEST_FRAME};
 
 impl AwakeCard {
     ghost use Rattle.card.specs.Fit.{FitSent};
@@ -13,9 +12,8 @@ impl AwakeCard {
     ghost use Rattle.card.specs.Told.{again, reply_length, replied};
 
     /// Writes the frame of the last block, if there is one, and answers its length.
-    pub fn write_last(&self, out: &mut [u8]) -> Option<usize>
-        requires fit { FitSent (awake_of self.now).last }
-        requires room { greatest_frame ≤ length out.old }
+    pub fn write_last(&self, out: &mut [u8; GREATEST_FRAME]) -> Option<usize>
+        requires { FitSent (awake_of self.now).last }
         ensures value { result ≡ reply_length (again (awake_of self.now).last) }
         ensures bytes { out.new ≡ replied (again (awake_of self.now).last) out.old }
     {

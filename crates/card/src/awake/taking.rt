@@ -28,11 +28,8 @@ impl AwakeCard {
         if !self.window {
             return None;
         }
-        read_pps(frame, settings.frame_size(), self.cid).filter(|pps| offered(
-            settings.ta,
-            pps.dsi,
-            pps.dri,
-        ))
+        let pps = read_pps(frame, settings.frame_size(), self.cid)?;
+        offered(settings.ta, pps.dsi, pps.dri).then_some(pps)
     }
 
     /// Gives the command to the application. Its waits, and its answer, are owed.

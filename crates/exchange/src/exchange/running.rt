@@ -34,14 +34,6 @@ impl Running {
     ghost use Rattle.exchange.specs.Moves.{Does, hearing};
     ghost use Rattle.exchange.specs.Runs.{run_link, run_seen};
 
-    /// An exchange whose command has begun.
-    pub(super) fn new(exchange: Exchange) -> Running
-        requires { progress_seen exchange.progress ≡ running }
-        ensures { result.exchange ≡ exchange }
-    {
-        Running { exchange }
-    }
-
     /// The exchange so far.
     pub fn exchange(&self) -> &Exchange
         ensures { result.now ≡ self.now.exchange }
