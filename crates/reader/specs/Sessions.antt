@@ -1,5 +1,5 @@
 -- What a session at any stage stands for.
-use Rattle.std.specs.Prelude.{ℕ, cond, List, Ok, Err, Result}
+use Rattle.std.specs.Prelude.{◌≡◌, ℕ, cond, List, Ok, Err, Result}
 use Rattle.activation.specs.Views.{said_by}
 use Rattle.activation.specs.declared.answer.Ats as heard
 use Rattle.frames.specs.declared.refusal.Refusal.{Refusal}
@@ -48,10 +48,9 @@ Answer = Result (coded.Outcome heard.Ats) Refusal
 abbrev pub after_call : Session → Answer → List ℕ → Told
 after_call s r buffer = at_session s (answer_seen said_by r buffer)
 
--- a step, by the session after it and what it answered
-abbrev pub left_by : Session → Answer → Result (Session × coded.Outcome heard.Ats) (Session × Refusal)
-left_by s (Ok o) = Ok (s, o)
-left_by s (Err why) = Err (s, why)
+-- a session at this stage, which has these settings and stands for this reader
+abbrev pub IsAt : {S : Type 0} → (S → ReaderSettings) → (S → Reader) → S → Session → Type 0
+IsAt settings reader stage s = (settings_of s ≡ settings stage) × (session_seen s ≡ reader stage)
 
 -- a new session: its settings, and the reader before anything was asked
 abbrev pub new_seen : Result Session Refusal → Result (ReaderSettings × Reader) Refusal

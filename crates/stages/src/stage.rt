@@ -1,4 +1,5 @@
-//! The stages of a session. Each is a type of its own, is never copied, and has just the calls that belong to it.
+//! The stages of a session. Each is a type of its own, is never copied, and has just the calls that belong to it. Where two
+//! hold the same, as Idle and Ended do, their calls differ: a struct over a marker for the stage would be no plainer.
 use super::setup::Setup;
 use exchange::{Exchange, Running};
 use frames::Cause;

@@ -1,6 +1,12 @@
 //! From one stage to the next.
 ghost use Rattle.std.specs.Prelude.{◌≡◌, IfOk, IfErr, MatchResult};
+ghost use Rattle.exchange.specs.Listening.{event_seen};
 ghost use Rattle.frames.specs.declared.refusal.Refusal.TheVariants.{Stage};
+ghost use Rattle.protocol.specs.Reader.{close as closes};
+ghost use Rattle.stages.specs.Calls.{Does, Hears, Reply};
+ghost use Rattle.stages.specs.Results.{at_rats, at_block, at_deselect};
+ghost use Rattle.reader.specs.Sessions.{at_session, after_call, IsAt};
+ghost use Rattle.reader.specs.declared.session.Session.{Session};
 
 use super::{Answer, Session};
 use frames::Refusal;
@@ -8,10 +14,6 @@ use stages::{AfterBlock, AfterDeselect, AfterRats, Close, Listen, Outcome, Unwok
 use std::mem;
 
 impl From<AfterRats> for Session {
-    ghost use Rattle.stages.specs.Calls.{Reply};
-    ghost use Rattle.stages.specs.Results.{at_rats};
-    ghost use Rattle.reader.specs.Sessions.{at_session};
-
     ghost from_gives = { λ next s. (p : Reply) → at_rats next p ≡ at_session s p };
 
     fn from(next: AfterRats) -> Session {
@@ -24,10 +26,6 @@ impl From<AfterRats> for Session {
 }
 
 impl From<AfterBlock> for Session {
-    ghost use Rattle.stages.specs.Calls.{Reply};
-    ghost use Rattle.stages.specs.Results.{at_block};
-    ghost use Rattle.reader.specs.Sessions.{at_session};
-
     ghost from_gives = { λ next s. (p : Reply) → at_block next p ≡ at_session s p };
 
     fn from(next: AfterBlock) -> Session {
@@ -40,10 +38,6 @@ impl From<AfterBlock> for Session {
 }
 
 impl From<AfterDeselect> for Session {
-    ghost use Rattle.stages.specs.Calls.{Reply};
-    ghost use Rattle.stages.specs.Results.{at_deselect};
-    ghost use Rattle.reader.specs.Sessions.{at_session};
-
     ghost from_gives = { λ next s. (p : Reply) → at_deselect next p ≡ at_session s p };
 
     fn from(next: AfterDeselect) -> Session {
@@ -55,12 +49,6 @@ impl From<AfterDeselect> for Session {
 }
 
 impl Session {
-    ghost use Rattle.exchange.specs.Listening.{event_seen};
-    ghost use Rattle.protocol.specs.Reader.{close as closes};
-    ghost use Rattle.stages.specs.Calls.{Does, Hears, Reply};
-    ghost use Rattle.reader.specs.Sessions.{at_session, after_call, session_seen, settings_of};
-    ghost use Rattle.reader.specs.declared.session.Session.{Session};
-
     /// Takes the session out for a step, and leaves a blank one in its place.
     pub(super) fn take(&mut self) -> Session
         ensures { result ≡ self.old }
@@ -102,7 +90,7 @@ impl Session {
     where
         Session: From<S::Next>,
         requires callable { (s : S) → G.pre same s }
-        requires stays { (s : S) (x : Session) → G.post same s x → (settings_of x ≡ S.settings s) × (session_seen x ≡ S.reader s) }
+        requires stays { (s : S) (x : Session) → G.post same s x → IsAt S.settings S.reader s x }
         requires goes_on { (n : S.Next) (x : Session) → ⟦<Session as From<S::Next>>⟧.from_gives n x → (p : Reply) → S.next n p ≡ at_session x p }
         ensures { Hears (S.settings stage) (S.reader stage) (event_seen bytes.entry) (after_call self.new result out.new) out.old out.new }
     {
@@ -117,7 +105,7 @@ impl Session {
         out: &mut [u8],
     ) -> Answer<'a>
         requires callable { (s : S) → G.pre same s }
-        requires stays { (s : S) (x : Session) → G.post same s x → (settings_of x ≡ S.settings s) × (session_seen x ≡ S.reader s) }
+        requires stays { (s : S) (x : Session) → G.post same s x → IsAt S.settings S.reader s x }
         ensures { Does (S.settings stage) (S.reader stage) closes (after_call self.new result out.new) out.old out.new }
     {
         let sent = self.settle(stage.close(out), Session::Closing, same)?;

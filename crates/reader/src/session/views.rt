@@ -44,6 +44,7 @@ impl Session {
     pub fn fetch<'a>(&self, out: &mut [u8]) -> Answer<'a>
         ensures { Does (settings_of self.now) (session_seen self.now) fetches (after_call self.now result out.new) out.old out.new }
     {
+        // A call for the type of each stage: with one call of a `&dyn Fetch` the proof didn't close.
         let len = match self {
             Session::Unwoken(stage) => stage.fetch(out),
             Session::Asking(stage) => stage.fetch(out),

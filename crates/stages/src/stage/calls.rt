@@ -17,10 +17,12 @@ use buffers::{ANSWER_ROOM, copy};
 use exchange::{Link, Says};
 use frames::Refusal;
 
-/// A stage: what it is set to, and the reader that it stands for.
+/// A stage of a session.
 pub trait Stage {
+    /// what it is set to
     ghost settings: { Self → ReaderSettings };
 
+    /// the reader that it stands for
     ghost reader: { Self → Reader };
 
     /// What it tells of the card and of the command.
@@ -77,6 +79,7 @@ pub trait Listen: Stage + Sized {
     /// The stages that may follow.
     type Next;
 
+    /// where each of them stands once it has answered
     ghost next: { Self.Next → Reply → Told };
 
     /// Bytes were heard, or nothing.

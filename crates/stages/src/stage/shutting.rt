@@ -1,5 +1,5 @@
 //! Shutting a session: deselect, from each stage that takes it.
-ghost use Rattle.std.specs.Prelude.{◌≡◌, true};
+ghost use Rattle.std.specs.Prelude.{◌≡◌, true, refl};
 ghost use Rattle.protocol.specs.Reader.{close as closes, at, closing, tried, no_cause, may_close};
 ghost use Rattle.stages.specs.Calls.{Does};
 ghost use Rattle.stages.specs.Results.{closed_by};
@@ -17,10 +17,11 @@ pub trait Shut: Stage + Sized {
         ensures settings { setup_seen result.setup ≡ Self.settings self }
         ensures reader { closing_seen result ≡ at closing (Self.reader self).link (tried 0 no_cause (Self.reader self).exchange) };
 
+    /// a card may be awake, and no exchange is open
     ghost shuts: { (s : Self) → may_close (Self.reader s) ≡ true };
 }
 
-/// A stage that takes close: a card may be awake, and no exchange is open.
+/// A stage that takes close.
 pub trait Close: Shut {
     /// Writes deselect, with the card number where the card has one.
     fn close(self, out: &mut [u8]) -> Result<(Closing, Sent), (Self, Refusal)>
@@ -42,8 +43,6 @@ impl Close for Idle {}
 impl Close for Ended {}
 
 impl Shut for Woken {
-    ghost use Rattle.std.specs.Prelude.{refl};
-
     ghost shuts = { λ _. refl };
 
     fn shut(self) -> Closing {
@@ -56,8 +55,6 @@ impl Shut for Woken {
 }
 
 impl Shut for Failed {
-    ghost use Rattle.std.specs.Prelude.{refl};
-
     ghost shuts = { λ _. refl };
 
     fn shut(self) -> Closing {
@@ -70,8 +67,6 @@ impl Shut for Failed {
 }
 
 impl Shut for Idle {
-    ghost use Rattle.std.specs.Prelude.{refl};
-
     ghost shuts = { λ _. refl };
 
     fn shut(self) -> Closing {
@@ -84,8 +79,6 @@ impl Shut for Idle {
 }
 
 impl Shut for Ended {
-    ghost use Rattle.std.specs.Prelude.{refl};
-
     ghost shuts = { λ _. refl };
 
     fn shut(self) -> Closing {

@@ -1,13 +1,14 @@
 //! What each stage tells, and the answer that it gives.
+ghost use Rattle.std.specs.Prelude.{refl};
+ghost use Rattle.stages.specs.Setups.{setup_seen};
+ghost use Rattle.stages.specs.Stages.{unwoken_seen, asking_seen, woken_seen, failed_seen, idle_seen, busy_seen, ended_seen, closing_seen, closed_seen};
+
 use super::calls::{Fetch, Linked, Stage};
 use super::{Asking, Busy, Closed, Closing, Ended, Failed, Idle, Unwoken, Woken};
 use crate::view::View;
 use exchange::{Exchange, Link};
 
 impl Stage for Unwoken {
-    ghost use Rattle.stages.specs.Setups.{setup_seen};
-    ghost use Rattle.stages.specs.Stages.{unwoken_seen};
-
     ghost settings = { λ s. setup_seen s.setup };
 
     ghost reader = { unwoken_seen };
@@ -18,9 +19,6 @@ impl Stage for Unwoken {
 }
 
 impl Stage for Asking {
-    ghost use Rattle.stages.specs.Setups.{setup_seen};
-    ghost use Rattle.stages.specs.Stages.{asking_seen};
-
     ghost settings = { λ s. setup_seen s.setup };
 
     ghost reader = { asking_seen };
@@ -31,9 +29,6 @@ impl Stage for Asking {
 }
 
 impl Stage for Woken {
-    ghost use Rattle.stages.specs.Setups.{setup_seen};
-    ghost use Rattle.stages.specs.Stages.{woken_seen};
-
     ghost settings = { λ s. setup_seen s.setup };
 
     ghost reader = { woken_seen };
@@ -44,9 +39,6 @@ impl Stage for Woken {
 }
 
 impl Stage for Failed {
-    ghost use Rattle.stages.specs.Setups.{setup_seen};
-    ghost use Rattle.stages.specs.Stages.{failed_seen};
-
     ghost settings = { λ s. setup_seen s.asking.setup };
 
     ghost reader = { failed_seen };
@@ -57,9 +49,6 @@ impl Stage for Failed {
 }
 
 impl Stage for Idle {
-    ghost use Rattle.stages.specs.Setups.{setup_seen};
-    ghost use Rattle.stages.specs.Stages.{idle_seen};
-
     ghost settings = { λ s. setup_seen s.setup };
 
     ghost reader = { idle_seen };
@@ -70,9 +59,6 @@ impl Stage for Idle {
 }
 
 impl Stage for Busy {
-    ghost use Rattle.stages.specs.Setups.{setup_seen};
-    ghost use Rattle.stages.specs.Stages.{busy_seen};
-
     ghost settings = { λ s. setup_seen s.setup };
 
     ghost reader = { busy_seen };
@@ -83,9 +69,6 @@ impl Stage for Busy {
 }
 
 impl Stage for Ended {
-    ghost use Rattle.stages.specs.Setups.{setup_seen};
-    ghost use Rattle.stages.specs.Stages.{ended_seen};
-
     ghost settings = { λ s. setup_seen s.setup };
 
     ghost reader = { ended_seen };
@@ -96,9 +79,6 @@ impl Stage for Ended {
 }
 
 impl Stage for Closing {
-    ghost use Rattle.stages.specs.Setups.{setup_seen};
-    ghost use Rattle.stages.specs.Stages.{closing_seen};
-
     ghost settings = { λ s. setup_seen s.setup };
 
     ghost reader = { closing_seen };
@@ -109,9 +89,6 @@ impl Stage for Closing {
 }
 
 impl Stage for Closed {
-    ghost use Rattle.stages.specs.Setups.{setup_seen};
-    ghost use Rattle.stages.specs.Stages.{closed_seen};
-
     ghost settings = { λ s. setup_seen s.closing.setup };
 
     ghost reader = { closed_seen };
@@ -122,8 +99,6 @@ impl Stage for Closed {
 }
 
 impl Fetch for Unwoken {
-    ghost use Rattle.std.specs.Prelude.{refl};
-
     ghost open = { λ _. refl };
 
     fn answer(&self) -> &[u8] {
@@ -132,8 +107,6 @@ impl Fetch for Unwoken {
 }
 
 impl Fetch for Asking {
-    ghost use Rattle.std.specs.Prelude.{refl};
-
     ghost open = { λ _. refl };
 
     fn answer(&self) -> &[u8] {
@@ -142,8 +115,6 @@ impl Fetch for Asking {
 }
 
 impl Fetch for Woken {
-    ghost use Rattle.std.specs.Prelude.{refl};
-
     ghost open = { λ _. refl };
 
     fn answer(&self) -> &[u8] {
@@ -152,8 +123,6 @@ impl Fetch for Woken {
 }
 
 impl Fetch for Failed {
-    ghost use Rattle.std.specs.Prelude.{refl};
-
     ghost open = { λ _. refl };
 
     fn answer(&self) -> &[u8] {
@@ -162,8 +131,6 @@ impl Fetch for Failed {
 }
 
 impl Fetch for Idle {
-    ghost use Rattle.std.specs.Prelude.{refl};
-
     ghost open = { λ _. refl };
 
     fn answer(&self) -> &[u8] {
@@ -172,8 +139,6 @@ impl Fetch for Idle {
 }
 
 impl Fetch for Busy {
-    ghost use Rattle.std.specs.Prelude.{refl};
-
     ghost open = { λ _. refl };
 
     fn answer(&self) -> &[u8] {
@@ -182,8 +147,6 @@ impl Fetch for Busy {
 }
 
 impl Fetch for Ended {
-    ghost use Rattle.std.specs.Prelude.{refl};
-
     ghost open = { λ _. refl };
 
     fn answer(&self) -> &[u8] {
@@ -192,8 +155,6 @@ impl Fetch for Ended {
 }
 
 impl Fetch for Closing {
-    ghost use Rattle.std.specs.Prelude.{refl};
-
     ghost open = { λ _. refl };
 
     fn answer(&self) -> &[u8] {
