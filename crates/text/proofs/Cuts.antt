@@ -1,6 +1,6 @@
 -- Cutting at a mark, and reading a number.
-use Rattle.std.proofs.Common.{◌≡◌, ℕ, zero, suc, ◌+◌, ◌-◌, ◌<◌, ◌≤◌, Bool, true, false, cond, eqb, List, [], ◌∷◌, length, get_or, take, drop, Some, None, Option, sym, refl, ap, ◌∙◌, add-one, arith}
-use Rattle.std.proofs.lemmas.List.{at_drop_more, at_drop_all, take_rest}
+use Rattle.std.proofs.Common.{◌≡◌, ℕ, zero, suc, ◌+◌, ◌-◌, ◌<◌, Bool, true, false, cond, eqb, List, [], ◌∷◌, length, get_or, take, drop, Some, None, Option, sym, refl, ap, ◌∙◌, add-one, arith}
+use Rattle.std.proofs.lemmas.List.{at_drop_more, take_rest}
 use Rattle.memchr.specs.Find.{IsFirstByte, is_byte}
 use Rattle.text.specs.Hex.{among}
 use Rattle.text.specs.Words.{Cut, longer, cut_at, count_from, digit_on, number_in}
@@ -39,10 +39,6 @@ pub cut_missed : (mark : ℕ) (xs : List ℕ) → IsFirstByte (is_byte mark) xs 
 cut_missed mark xs h = cut_nowhere mark xs (λ k l. off (eqb (get_or xs k 0) mark) (h k (omega arith) l))
 
 -- numbers
-pub number_start : (field : List ℕ) → (length field ≡ 0 → ⊥) → count_from 0 (drop 0 field) ≡ number_in field
-number_start [] h = absurd (h refl)
-number_start (c ∷ cs) h = refl
-
 module _ (field : List ℕ) (i n : ℕ) (inv : count_from n (drop i field) ≡ number_in field) where
   abbrev digit : ℕ
   digit = get_or field i 0
@@ -56,6 +52,3 @@ module _ (field : List ℕ) (i n : ℕ) (inv : count_from n (drop i field) ≡ n
   number_none h is =
       ap (λ t. cond t (count_from (digit_on n digit) (drop (i + 1) field)) None) (sym is)
       ∙ sym (at_drop_more (count_from n) field i 0 h) ∙ inv
-
-  pub number_all : length field ≤ i → Some n ≡ number_in field
-  number_all h = sym (at_drop_all (count_from n) field i h) ∙ inv
