@@ -1,3 +1,1 @@
-pub mod Breaks
 pub mod Numbers
-pub mod Sealings

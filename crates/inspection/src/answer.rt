@@ -15,7 +15,6 @@ use super::printing::{BlockText, CauseText};
 use activation::{Ats, hear_ats, size_of_code};
 use frames::{Agreed, GREATEST_FRAME, read_block, seal};
 use std::alloc::AllocError;
-use std::fmt::Write;
 use text::Hex;
 
 /// Appends what sealing a body gives.

@@ -5,7 +5,6 @@ ghost use Rattle.inspection.specs.Lines.{output};
 use super::answer::push_answer;
 use super::job::job_of;
 use std::alloc::{AllocError, Global};
-use std::fmt::Write;
 use text::{BadLine, Lines, ReadError};
 
 /// Appends an answer for each line of `input`, up to one that cannot be read.

@@ -5,7 +5,6 @@ ghost use Rattle.script.specs.Rows.{row_names, says_text, row_shown};
 
 use exchange::Says;
 use std::alloc::AllocError;
-use std::fmt::Write;
 use text::Hex;
 
 /// What a call did: its word and result, the frame that it wrote, the answer that it ended with, and what the reader says.

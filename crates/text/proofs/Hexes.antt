@@ -1,6 +1,6 @@
 -- Steps of reading and printing digits.
-use Rattle.std.proofs.Common.{◌≡◌, ℕ, zero, suc, ◌+◌, ◌*◌, ◌/◌, ◌%◌, ◌<◌, ◌≤◌, List, [], ◌∷◌, ◌++◌, length, get_or, set, take, drop, Some, None, Option, sym, refl, ap, ap₂, ◌∙◌, append_assoc, append-nil, length-set, arith}
-use Rattle.std.proofs.lemmas.List.{at_drop_more, at_drop_all, take_more, take_more_set}
+use Rattle.std.proofs.Common.{◌≡◌, ℕ, zero, suc, ◌+◌, ◌*◌, ◌/◌, ◌%◌, ◌<◌, List, [], ◌∷◌, ◌++◌, length, get_or, set, take, drop, Some, None, Option, sym, refl, ap, ap₂, ◌∙◌, append_assoc, length-set, arith}
+use Rattle.std.proofs.lemmas.List.{at_drop_more, take_more, take_more_set}
 use Rattle.std.proofs.lemmas.Bool.Decides.{nat_tests}
 use Rattle.std.specs.Simd.{first_chunks}
 use Rattle.std.specs.Str.{IsAscii}
@@ -60,14 +60,6 @@ module _ (pairs : List (List ℕ)) (xs : List ℕ) (i : ℕ) (whole : Option (Li
       follow_more xs b (bytes_of (drop (i + 1) pairs))
       ∙ ap (λ o. follow xs (before o (bytes_of (drop (i + 1) pairs)))) (sym e)
       ∙ ap (follow xs) (sym (at_drop_more bytes_of pairs i [] h)) ∙ inv
-
-  pub read_none : i < length pairs → next ≡ None → None ≡ whole
-  read_none h e =
-      ap (λ o. follow xs (before o (bytes_of (drop (i + 1) pairs)))) (sym e)
-      ∙ ap (follow xs) (sym (at_drop_more bytes_of pairs i [] h)) ∙ inv
-
-  pub read_all : length pairs ≤ i → Some xs ≡ whole
-  read_all h = ap (λ l. Some l) (sym (append-nil xs)) ∙ ap (follow xs) (sym (at_drop_all bytes_of pairs i h)) ∙ inv
 
 -- Digits printed.
 

@@ -10,7 +10,7 @@ pub const GREATEST_NUMBER: usize = 4294967296;
 pub(super) fn split_once<'a>(text: &'a [u8], mark: u8) -> Option<(&'a [u8], &'a [u8])>
     ensures { cut_seen result ≡ cut_at mark text.now }
 {
-    let i = text.iter().position(|c| *c == mark)?;
+    let i = memchr::memchr(mark, text)?;
     Some((&text[..i], &text[i + 1..]))
 }
 
