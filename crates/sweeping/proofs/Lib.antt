@@ -1,3 +1,4 @@
 pub mod Drives
+pub mod Leaving
 pub mod Running
 pub mod Truth

@@ -1,5 +1,6 @@
 //! The lines of the table.
 ghost use Rattle.std.specs.Prelude.{◌≡◌, Some};
+ghost use Rattle.std.specs.Fmt.{WritesOnOk};
 ghost use Rattle.sweeping.specs.Texts.{letter_of, letters_text, word_text, card_text, line_text};
 
 use super::plan::Loss;
@@ -32,6 +33,18 @@ fn letter(loss: Loss) -> char
     }
 }
 
+/// Writes a letter for each of `count` digits, the lowest first. (It goes down the digits as the definition does; as a loop it would need an
+/// invariant that says no more.)
+fn write_letters<W: fmt::Write>(f: &mut fmt::Formatter<W>, count: usize, code: usize) -> fmt::Result
+    ensures { WritesOnOk W.write_str_gives f.old result (letters_text count code) f.new }
+{
+    if count == 0 {
+        return Ok(());
+    }
+    write!(f, "{}", letter(Loss::of(code % 4)))?;
+    write_letters(f, count - 1, code / 4)
+}
+
 /// A letter for each loss of a run; a dash where there is none.
 #[derive(Clone, Copy)]
 struct Word(Run);
@@ -41,14 +54,9 @@ impl fmt::Display for Word {
 
     fn fmt<W: fmt::Write>(&self, f: &mut fmt::Formatter<W>) -> fmt::Result {
         if self.0.count == 0 {
-            return f.write_str("-");
+            return write!(f, "-");
         }
-        let mut code = self.0.code;
-        for _ in 0..self.0.count {
-            f.write_char(letter(Loss::of(code % 4)))?;
-            code /= 4;
-        }
-        Ok(())
+        write_letters(f, self.0.count, self.0.code)
     }
 }
 

@@ -46,14 +46,12 @@ pub fn begin<A: Application>(pair: &mut Pair<A>, command: &[u8], plan: Plan) -> 
 }
 
 /// The turns of a plan, as long as the exchange goes on.
-pub fn drive<A: Application>(pair: &mut Pair<A>, begun: Tally, plan: Plan) -> Tally
-    ensures { trail_seen pair.new result ≡ driven most_turns (setup_seen A.Application.model pair.old) plan (trail_seen pair.old begun) }
+pub fn drive<A: Application>(pair: &mut Pair<A>, mut tally: Tally, mut plan: Plan) -> Tally
+    ensures { trail_seen pair.new result ≡ driven most_turns (setup_seen A.Application.model pair.old) plan (trail_seen pair.old tally) }
 {
-    let mut tally = begun;
-    let mut plan = plan;
-    for _ in 0..MOST_TURNS {
+    for _turn in 0..MOST_TURNS {
         if !tally.told.goes_on {
-            break;
+            return tally;
         }
         let heard = plan.loss().heard();
         plan = plan.after();

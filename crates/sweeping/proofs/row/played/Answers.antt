@@ -5,7 +5,7 @@ use Rattle.applications.specs.Yarn.{yarn}
 use Rattle.script.specs.SetupViews.{chosen_seen, values_seen}
 use Rattle.trial.specs.Benches.{reader_for, card_for}
 use Rattle.sweeping.specs.Rows.{row_for, row_on, row_of, filled}
-use Rattle.sweeping.proofs.row.run.Goals as goal
+use Rattle.sweeping.proofs.row.played.Goals as goal
 
 pub returns-in-Metre : goal.returns-in-Metre
 unfolding row_of

@@ -1,0 +1,4 @@
+use Rattle.sweeping.proofs.line.+write_letters.Given as goal
+
+abbrev pub decreases-write_letters : goal.decreases-write_letters
+decreases-write_letters g l = l.count
