@@ -4,31 +4,29 @@
 use std::alloc::{AllocError, Global};
 use std::io;
 use std::io::{Read, Write};
-use text::{first_line, is_spelled, push_line};
+use text::Lines;
 use trial::push_output;
 
-fn push_each(heap: Global, out: &mut Vec<u8>, input: &[u8]) -> Result<(), AllocError> {
-    let mut script = Vec::new(heap);
-    let mut rest = input;
-    while !rest.is_empty() {
-        let (line, after) = first_line(rest);
-        if is_spelled(line, b"--") {
-            push_output(heap, out, script.as_slice())?;
-            push_line(out, b"--")?;
-            script = Vec::new(heap);
+fn push_each(alloc: Global, out: &mut String, input: &[u8]) -> Result<(), AllocError> {
+    let mut script = Vec::new(alloc);
+    for line in Lines::new(input) {
+        if line == b"--".as_slice() {
+            push_output(alloc, out, &script)?;
+            out.push_str("--\n")?;
+            script.clear();
         } else {
-            push_line(&mut script, line)?;
+            script.extend_from_slice(line)?;
+            script.push(b'\n')?;
         }
-        rest = after;
     }
     Ok(())
 }
 
 fn main(rt: HostRuntime) -> io::Result<()> {
-    let heap = rt.alloc();
-    let mut input = Vec::new(heap);
+    let alloc = rt.alloc();
+    let mut input = Vec::new(alloc);
     rt.stdin().read_to_end(&mut input)?;
-    let mut out = Vec::new(heap);
-    push_each(heap, &mut out, input.as_slice())?;
-    rt.stdout().write_all(out.as_slice())
+    let mut out = String::new(alloc);
+    push_each(alloc, &mut out, &input)?;
+    rt.stdout().write_all(out.as_bytes())
 }
