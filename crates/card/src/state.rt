@@ -1,5 +1,5 @@
 //! The stages of a card.
-ghost use Rattle.std.specs.Prelude.{◌≡◌, ◌≤◌, true, length, IsNone, MatchOption};
+ghost use Rattle.std.specs.Prelude.{◌≡◌, true, length, IsNone, MatchOption};
 ghost use Rattle.frames.specs.Check.{open_frame};
 ghost use Rattle.frames.specs.Sizes.{size_of, greatest_frame};
 ghost use Rattle.protocol.specs.Card.{takes, on_rats, rats_in};
@@ -102,6 +102,8 @@ impl CardState {
         requires fit { FitCard (card_of self.now) }
         ensures value { result ≡ reply_length (reply_for (settings_of settings.now) (card_of self.now) taken.sends) }
         ensures bytes { out.new ≡ replied (reply_for (settings_of settings.now) (card_of self.now) taken.sends) out.old }
+
+        // A caller that lent a part of a slice learns here that it is whole.
         ensures whole { length out.new ≡ greatest_frame }
     {
         match taken.sends? {

@@ -1,5 +1,5 @@
 //! Writing what can be written.
-ghost use Rattle.std.specs.Prelude.{◌≡◌, ◌≤◌, length, Some};
+ghost use Rattle.std.specs.Prelude.{◌≡◌, length, Some};
 ghost use Rattle.buffers.specs.Over.{over};
 ghost use Rattle.frames.specs.Blocks.{frame_of};
 ghost use Rattle.frames.specs.Views.{block_seen};

@@ -1,5 +1,5 @@
 //! The last block of an awake card, written from what the card keeps of it.
-ghost use Rattle.std.specs.Prelude.{◌≡◌, ◌≤◌, length};
+ghost use Rattle.std.specs.Prelude.{◌≡◌, length};
 
 use super::AwakeCard;
 use crate::last::LastBlock;

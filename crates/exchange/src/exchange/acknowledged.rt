@@ -1,5 +1,5 @@
 //! What an R(ACK) does. A rule that no limit bears on has 0 for the limits in its contract.
-ghost use Rattle.std.specs.Prelude.{◌≡◌, Ok, ◌≤◌, length};
+ghost use Rattle.std.specs.Prelude.{◌≡◌, Ok};
 ghost use Rattle.protocol.specs.Reader.{more, same, on_equal, on_other, on_ack};
 
 use super::Running;

@@ -1,5 +1,5 @@
 //! What an I-block does. No limit bears on it: its rule has 0 for the limits in its contract.
-ghost use Rattle.std.specs.Prelude.{◌≡◌, Ok, ◌<◌, ◌≤◌, not, length};
+ghost use Rattle.std.specs.Prelude.{◌≡◌, Ok, ◌<◌, not, length};
 ghost use Rattle.frames.specs.Check.{both};
 ghost use Rattle.protocol.specs.Reader.{more, same, on_information};
 

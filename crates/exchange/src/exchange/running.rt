@@ -1,5 +1,5 @@
 //! An exchange in which a command runs, and what is heard in it.
-ghost use Rattle.std.specs.Prelude.{◌≡◌, Ok, ◌<◌, ◌≤◌, length};
+ghost use Rattle.std.specs.Prelude.{◌≡◌, Ok, ◌<◌, length};
 ghost use Rattle.frames.specs.Blocks.{ValidBlock};
 ghost use Rattle.frames.specs.Faults.{cause_seen};
 ghost use Rattle.frames.specs.Sizes.{greatest_frame};
@@ -97,6 +97,8 @@ impl Running {
     /// What was heard after the last frame, or silence.
     fn on_heard(self, limits: Limits, heard: Option<&[u8]>, out: &mut [u8; GREATEST_FRAME]) -> Turn
         ensures does { Does (on_reading limits.repeats limits.waits (run_link self) (run_seen self) (read_as limits.fsd (agreed_of (run_link self).cid) (event_seen heard.entry))) (Ok result) out.old out.new }
+
+        // A caller that lent a part of a slice learns here that it is whole.
         ensures whole { length out.new ≡ greatest_frame }
     {
         match listen(heard, limits.fsd, self.exchange.link.agreed()) {

@@ -1,5 +1,5 @@
 //! The reader's blocks, as they go out, and how an exchange ends.
-ghost use Rattle.std.specs.Prelude.{◌≡◌, Ok, ℕ, ◌≤◌, true, List, length};
+ghost use Rattle.std.specs.Prelude.{◌≡◌, Ok, ℕ, true, List, length};
 ghost use Rattle.frames.specs.Blocks.{r_block};
 ghost use Rattle.frames.specs.Sizes.{greatest_frame};
 ghost use Rattle.frames.specs.Views.{block_seen};
@@ -41,6 +41,8 @@ impl Running {
     /// Writes the frame of the last block.
     pub(super) fn send_part(&self, out: &mut [u8; GREATEST_FRAME]) -> Sent
         ensures sends { Sends (writes (run_link self.now) (run_seen self.now) (part_block (run_link self.now) (run_seen self.now))) self.now result out.old out.new }
+
+        // A caller that lent a part of a slice learns here that it is whole.
         ensures whole { length out.new ≡ greatest_frame }
     {
         let part = self.part();
