@@ -4,8 +4,6 @@ use Rattle.std.specs.Borrow.{Bor}
 use Rattle.frames.specs.Reading.{Reading, valid, invalid}
 use Rattle.frames.specs.Views.{block_seen}
 use Rattle.frames.specs.declared.block.Block.{Block}
-use Rattle.frames.specs.declared.fault.FrameFault.{FrameFault}
-use Rattle.frames.specs.declared.fault.FrameFault.TheVariants.{Silence}
 use Rattle.protocol.specs.Reader.{Event, bytes, no_bytes}
 use Rattle.exchange.specs.declared.fault.SessionFault.{SessionFault}
 use Rattle.exchange.specs.Faults.{session_cause}

@@ -5,7 +5,7 @@ use Rattle.frames.specs.declared.refusal.Refusal.TheVariants.{Length}
 use Rattle.protocol.specs.Reader.{Move, writes, part_block}
 use Rattle.exchange.specs.Exchanges.{exchange_seen}
 use Rattle.exchange.specs.Links.{link_seen}
-use Rattle.exchange.specs.Moves.{Begins, begin_seen}
+use Rattle.exchange.specs.Moves.{Begins}
 use Rattle.exchange.proofs.Moves.{beginning_goes, beginning_refuses, kept, widened}
 use Rattle.exchange.proofs.exchange.Exchange.begin.Goals as goal
 
