@@ -1,5 +1,5 @@
 -- A step in which the application has no part leaves its state, whatever that is.
-use Rattle.std.proofs.Common.{◌≡◌, ℕ, Bool, true, false, cond, Some, None, Option, refl, ap, ◌∙◌}
+use Rattle.std.proofs.Common.{◌≡◌, Bool, true, false, cond, Some, None, Option, refl, ap, ◌∙◌}
 use Rattle.frames.specs.Blocks.{Cid}
 use Rattle.protocol.specs.Card.{Awake, awake, Owed, owes_nothing, owes_waits, owes_rest, Sent, unsent, sent, quiet, CardMove, remains, sends_again, on_next, on_r}
 use Rattle.protocol.specs.Settings.{CardSettings}

@@ -1,6 +1,6 @@
 -- A reply in a part of a buffer.
-use Rattle.std.proofs.Common.{◌≡◌, ℕ, ◌≤◌, cond, sym, List, ◌++◌, length, take, drop, ap, ◌∙◌, arith, length-append, length-drop}
-use Rattle.std.proofs.lemmas.List.{length-take-le, take-append-drop}
+use Rattle.std.proofs.Common.{◌≡◌, ℕ, ◌≤◌, cond, sym, List, ◌++◌, length, drop, ap, ◌∙◌, arith, length-append}
+use Rattle.std.proofs.lemmas.List.{take-append-drop}
 use Rattle.std.specs.Array.{IsFirstChunk}
 use Rattle.std.proofs.lemmas.Bool.{le-ltb}
 use Rattle.buffers.proofs.Overs.{over_front}

@@ -1,4 +1,4 @@
-use Rattle.std.proofs.Common.{Ok, ◌≡◌, length, sym, refl, ap, ◌∙◌, subst}
+use Rattle.std.proofs.Common.{Ok, length, sym, refl, ap, ◌∙◌, subst}
 use Rattle.card.specs.Fit.{FitCard}
 use Rattle.card.specs.Held.{card_of, settings_of}
 use Rattle.card.specs.Told.{reply_length, replied}
