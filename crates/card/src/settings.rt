@@ -16,8 +16,8 @@ use frames::{Agreed, GREATEST_FRAME};
 /// The most historical bytes in the card's ATS.
 pub const LONGEST_HISTORICAL: usize = 9;
 
-/// The bit of TC for card numbers.
-const CARD_NUMBERS: u8 = 0x02;
+/// The bit of TC by which a card supports card numbers.
+const SUPPORTS_NUMBERS: u8 = 0x02;
 
 /// The code of the card's frame size, the codes of its waiting and guard time, the divisors that it offers, whether it
 /// supports card numbers, and its historical bytes: the first `historical_len` of `historical`. These are two fields, since a
@@ -66,7 +66,7 @@ impl CardSettings {
     fn tc(&self) -> u8
         ensures { result ≡ (if self.now.supports then 0x02 else 0x00) }
     {
-        if self.supports { CARD_NUMBERS } else { 0 }
+        if self.supports { SUPPORTS_NUMBERS } else { 0 }
     }
 
     /// The card's ATS.
