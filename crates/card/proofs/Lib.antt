@@ -2,5 +2,4 @@ mod Choosing
 mod FitBlocks
 mod Keeping
 mod Lifts
-mod Valid
 mod Widening

@@ -4,7 +4,6 @@
 mod awake;
 mod card;
 mod last;
-mod reading;
 mod response;
 mod settings;
 mod state;

@@ -1,6 +1,7 @@
 //! What a card is set to.
 ghost use Rattle.std.specs.Prelude.{◌≡◌, true, length, if◌then◌else◌, Some};
 ghost use Rattle.activation.specs.Ats.{ats_of};
+ghost use Rattle.activation.specs.Views.{said_by};
 ghost use Rattle.buffers.specs.Over.{over};
 ghost use Rattle.frames.specs.Check.{seal};
 ghost use Rattle.frames.specs.Sizes.{size_of};
@@ -9,20 +10,14 @@ ghost use Rattle.protocol.specs.Card.{card_agreed};
 ghost use Rattle.protocol.specs.Settings.{ats_for};
 ghost use Rattle.card.specs.Held.{settings_of, settings_good};
 
-use activation::{Ats, GREATEST_CODE, size_of_code, write_ats};
+use activation::{Ats, size_of_code, write_ats};
 use frames::{Agreed, GREATEST_FRAME};
 
 /// The most historical bytes in the card's ATS.
 pub const LONGEST_HISTORICAL: usize = 9;
 
-/// The codes of times are below this.
-const TIMES: u8 = 15;
-
-/// The bit of TA that is 0.
-const TA_ZERO: u8 = 0x08;
-
-/// The bit of TC for card numbers.
-const CARD_NUMBERS: u8 = 0x02;
+/// The bit of TC by which a card supports card numbers.
+const SUPPORTS_NUMBERS: u8 = 0x02;
 
 /// The code of the card's frame size, the codes of its waiting and guard time, the divisors that it offers, whether it
 /// supports card numbers, and its historical bytes: the first `historical_len` of `historical`. These are two fields, since a
@@ -44,11 +39,7 @@ impl CardSettings {
     pub fn is_valid(&self) -> bool
         ensures { result ≡ settings_good self.now }
     {
-        self.historical_len <= LONGEST_HISTORICAL
-            && self.fsci <= GREATEST_CODE
-            && self.fwi < TIMES
-            && self.sfgi < TIMES
-            && self.ta & TA_ZERO == 0
+        self.historical_len <= LONGEST_HISTORICAL && self.ats().is_valid()
     }
 
     /// The card's frame size.
@@ -75,7 +66,22 @@ impl CardSettings {
     fn tc(&self) -> u8
         ensures { result ≡ (if self.now.supports then 0x02 else 0x00) }
     {
-        if self.supports { CARD_NUMBERS } else { 0 }
+        if self.supports { SUPPORTS_NUMBERS } else { 0 }
+    }
+
+    /// The card's ATS.
+    fn ats(&self) -> Ats<'_>
+        requires { self.now.historical_len ≤ 9 }
+        ensures { said_by result ≡ ats_for (settings_of self.now) }
+    {
+        Ats {
+            fsci: self.fsci,
+            ta: self.ta,
+            fwi: self.fwi,
+            sfgi: self.sfgi,
+            tc: self.tc(),
+            historical: &self.historical[..self.historical_len],
+        }
     }
 
     /// Writes the card's ATS, and answers the frame's length.
@@ -84,14 +90,6 @@ impl CardSettings {
         ensures value { result ≡ Some (length (seal (ats_of (ats_for (settings_of self.now))))) }
         ensures bytes { out.new ≡ over (seal (ats_of (ats_for (settings_of self.now)))) out.old }
     {
-        let ats = Ats {
-            fsci: self.fsci,
-            ta: self.ta,
-            fwi: self.fwi,
-            sfgi: self.sfgi,
-            tc: self.tc(),
-            historical: &self.historical[0..self.historical_len],
-        };
-        write_ats(ats, out).ok()
+        write_ats(self.ats(), out).ok()
     }
 }

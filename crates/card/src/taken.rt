@@ -5,7 +5,7 @@ ghost use Rattle.card.specs.Fit.{FitSends, FitSends-prop};
 use frames::CardNumber;
 
 /// What the card sends back to a frame.
-#[derive(Clone, Copy)]
+#[derive(Clone, Copy, Debug, PartialEq, Eq)]
 pub enum Sends {
     Ats,
     PpsResponse,
@@ -16,7 +16,7 @@ pub enum Sends {
 }
 
 /// What it sends, if anything, and whether its application was given a command.
-#[derive(Clone, Copy)]
+#[derive(Clone, Copy, Debug, PartialEq, Eq)]
 pub struct Taken {
     pub sends: Option<Sends>,
     pub given: bool,

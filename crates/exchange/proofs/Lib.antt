@@ -1,2 +1,1 @@
-mod Heard
 mod Moves

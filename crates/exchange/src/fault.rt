@@ -7,7 +7,7 @@ ghost use Rattle.exchange.specs.declared.fault.SessionFault.TheVariants.{Frame a
 use activation::ActivationFault;
 use frames::{BlockFault, Cause, FrameFault};
 
-#[derive(Clone, Copy)]
+#[derive(Clone, Copy, Debug, PartialEq, Eq)]
 pub enum SessionFault {
     /// it is no frame
     Frame(FrameFault),

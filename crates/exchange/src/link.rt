@@ -9,14 +9,11 @@ ghost use Rattle.frames.specs.Writing.{cid_in_range};
 ghost use Rattle.protocol.specs.Reader.{listening, agreed_of};
 ghost use Rattle.protocol.specs.Settings.{room_of};
 
-use activation::{Ats, size_of_code};
+use activation::{Ats, CARD_NUMBERS, size_of_code};
 use frames::{Agreed, CardNumber};
 
 /// The bit of TC by which a card supports card numbers.
-const CARD_NUMBERS: u8 = 0x02;
-
-/// Card numbers are below this.
-const NUMBERS: u8 = 15;
+const SUPPORTS_NUMBERS: u8 = 0x02;
 
 /// The waiting time of the code 0, in carrier cycles.
 const LEAST_TIME: u64 = 4096;
@@ -29,7 +26,7 @@ const BARE: usize = 3;
 
 /// The card's frame size, the codes of its waiting time and of the divisors that it offers, the card number in the reader's
 /// blocks, and the codes of the divisors in use, from the card and to it.
-#[derive(Clone, Copy)]
+#[derive(Clone, Copy, Debug, PartialEq, Eq)]
 pub struct Link {
     fsc: usize,
     fwi: u8,
@@ -49,7 +46,7 @@ fn card_for(tc: u8, number: u8) -> Option<CardNumber>
     ensures value { cid_seen result ≡ (if has 0x02 tc then numbered number 0 else without) }
     ensures range { cid_in_range (cid_seen result) ≡ true }
 {
-    (tc & CARD_NUMBERS != 0).then_some(CardNumber { number, power: 0 })
+    (tc & SUPPORTS_NUMBERS != 0).then_some(CardNumber { number, power: 0 })
 }
 
 /// The waiting time of a code, in carrier cycles.
@@ -67,7 +64,7 @@ impl Link {
     pub fn of(ats: Ats<'_>, number: u8) -> Option<Link>
         ensures { link_made result ≡ link_for (said_by ats.entry) number }
     {
-        if !ats.is_valid() || number >= NUMBERS {
+        if !ats.is_valid() || number >= CARD_NUMBERS {
             return None;
         }
         Some(Link {

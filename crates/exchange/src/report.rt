@@ -36,7 +36,7 @@ pub struct Report {
 }
 
 /// Why an exchange, or a waking, ended against the reader's will.
-#[derive(Clone, Copy)]
+#[derive(Clone, Copy, Debug, PartialEq, Eq)]
 pub enum Ending {
     /// the repeats are spent; the last cause, if one came since the last fresh frame
     Spent(Option<Cause>),

@@ -1,10 +1,10 @@
 //! What is printed of a block and of a cause.
 ghost use Rattle.std.specs.Prelude.{◌≡◌, Some};
-ghost use Rattle.frames.specs.Faults.{layer_seen, cause_seen};
+ghost use Rattle.frames.specs.Faults.{cause_seen};
 ghost use Rattle.frames.specs.Views.{cid_seen, block_seen};
-ghost use Rattle.inspection.specs.Texts.{bit_text, chaining_text, nak_text, card_text, layer_text, block_text, cause_text};
+ghost use Rattle.inspection.specs.Texts.{bit_text, chaining_text, nak_text, card_text, block_text, cause_text};
 
-use frames::{Block, CardNumber, Cause, Layer, information_place};
+use frames::{Block, CardNumber, Cause, information_place};
 use std::fmt;
 use text::Hex;
 
@@ -24,16 +24,6 @@ fn nak_text(nak: bool) -> &'static str
     ensures { result.now ≡ nak_text nak }
 {
     if nak { "NAK" } else { "ACK" }
-}
-
-fn layer_text(layer: Layer) -> &'static str
-    ensures { result.now ≡ layer_text (layer_seen layer) }
-{
-    match layer {
-        Layer::Frame => "frame",
-        Layer::Activation => "activation",
-        Layer::Block => "block",
-    }
 }
 
 /// A card number and its power level.
@@ -105,6 +95,6 @@ impl fmt::Display for CauseText {
             place,
             layer,
         } = self.0;
-        write!(f, "{number} {place} {}", layer_text(layer))
+        write!(f, "{number} {place} {layer}")
     }
 }

@@ -8,7 +8,7 @@ use exchange::{Ending, Report, Sent};
 use frames::Refusal;
 
 /// What a call comes to that was not refused; `A` is what is held of an ATS.
-#[derive(Clone, Copy)]
+#[derive(Clone, Copy, Debug, PartialEq, Eq)]
 pub enum Outcome<A> {
     /// a frame stands at the front of the buffer
     Wrote(Sent),

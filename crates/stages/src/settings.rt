@@ -3,10 +3,7 @@ ghost use Rattle.std.specs.Prelude.{◌≡◌};
 ghost use Rattle.protocol.specs.Settings.{reader_in_range};
 ghost use Rattle.stages.specs.Setups.{wished};
 
-use activation::GREATEST_CODE;
-
-/// Card numbers are below this one.
-const CARD_NUMBERS: u8 = 15;
+use activation::{CARD_NUMBERS, GREATEST_CODE};
 
 /// A fresh frame is repeated at most so often.
 const MOST_REPEATS: u8 = 15;

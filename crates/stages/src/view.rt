@@ -4,7 +4,7 @@ ghost use Rattle.std.specs.Prelude.{◌≡◌};
 use exchange::{Exchange, Link, Says};
 
 /// What is held of the card, none where none was woken, and what the reader says of its command.
-#[derive(Clone, Copy)]
+#[derive(Clone, Copy, Debug, PartialEq, Eq)]
 pub struct View {
     pub link: Option<Link>,
     pub says: Says,

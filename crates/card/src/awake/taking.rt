@@ -10,12 +10,11 @@ ghost use Rattle.protocol.specs.Settings as range;
 ghost use Rattle.protocol.specs.Card.{awake, owes_nothing, gives, takes_i, on_i, on_block, pps_in, takes};
 
 use super::{AwakeCard, reply_number};
-use crate::reading::hear_block;
 use crate::settings::CardSettings;
 use crate::taken::{Sends, Taken};
 use activation::{Pps, offered, read_pps};
 use applications::{Application, LONGEST_ANSWER};
-use frames::{Block, CardNumber};
+use frames::{Block, CardNumber, read_block};
 
 impl AwakeCard {
     ghost use Rattle.card.specs.Held.{awake_of, settings_of};
@@ -121,7 +120,7 @@ impl AwakeCard {
             self.change(pps);
             return Taken::alone(Some(Sends::PpsResponse));
         }
-        match hear_block(frame, settings.frame_size(), settings.agreed(self.cid)) {
+        match read_block(frame, settings.frame_size(), settings.agreed(self.cid)) {
             Ok(block) => self.take_block(application, block),
             Err(_) => Taken::alone(self.stay_quiet()),
         }
