@@ -1,5 +1,5 @@
 //! What a card is set to.
-ghost use Rattle.std.specs.Prelude.{◌≡◌, true, length, if◌then◌else◌, Some};
+ghost use Rattle.std.specs.Prelude.{◌≡◌, ◌≤◌, true, length, if◌then◌else◌, Some};
 ghost use Rattle.activation.specs.Ats.{ats_of};
 ghost use Rattle.activation.specs.Views.{said_by};
 ghost use Rattle.buffers.specs.Over.{over};
