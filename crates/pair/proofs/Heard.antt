@@ -2,7 +2,7 @@
 use Rattle.std.proofs.Common.{◌≡◌, ℕ, ap}
 use Rattle.frames.specs.Sizes.{greatest_frame}
 use Rattle.protocol.specs.Card.{Reply, quiet, reply}
-use Rattle.protocol.specs.Reader.{Reader, Event, Move, do_call, guarded, hear, listens}
+use Rattle.protocol.specs.Reader.{Reader, Event, do_call, guarded, hear, listens}
 use Rattle.protocol.specs.Settings.{ReaderSettings}
 use Rattle.pair.specs.Airs.{event_in}
 use Rattle.pair.specs.Deeds.{hearing}

@@ -2,7 +2,7 @@
 use Rattle.std.specs.Prelude.{ℕ, zero, suc, ◌+◌, Bool, true, false, cond, List}
 use Rattle.card.specs.Told.{was_given}
 use Rattle.frames.specs.Sizes.{greatest_frame}
-use Rattle.pair.specs.Deeds.{Deed, ask, start, begin, hear, Act, step_for}
+use Rattle.pair.specs.Deeds.{Deed, begin, Act, step_for}
 use Rattle.pair.specs.Runs.{acted, outcome_of, ran}
 use Rattle.protocol.specs.Field.{Setup, World, step_from, whole}
 use Rattle.protocol.specs.Reader.{Totals, Outcome, refused, wrote, wakes, active, answered, over, stopped, off, unanswered, fetched, outcome_number}

@@ -35,7 +35,9 @@ fn frames_in(answer: &Answer) -> usize
     ensures { (buffer : List ℕ) → result ≡ frames_in (answer_seen answer.now.outcome buffer) }
 {
     match &answer.outcome {
-        Ok(Outcome::Answered { report, .. } | Outcome::Over { report, .. }) => written(report.totals),
+        Ok(Outcome::Answered { report, .. } | Outcome::Over { report, .. }) => written(
+            report.totals,
+        ),
         _ => 0,
     }
 }

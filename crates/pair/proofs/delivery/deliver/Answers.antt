@@ -1,7 +1,7 @@
 use Rattle.std.proofs.Common.{◌≡◌, ℕ, cond, length, None, ap, ◌∙◌, rules}
 use Rattle.card.specs.Calls.{move_at}
 use Rattle.pair.specs.Fronts.{front_of, fits}
-use Rattle.pair.proofs.Delivered.{front_replied, fits-replied, len_heard, given_heard, never_refused, card_heard_lem, state_heard_lem, buffer_heard_lem}
+use Rattle.pair.proofs.Delivered.{front_replied, fits-replied, len_heard, buffer_heard_lem}
 use Rattle.pair.proofs.delivery.deliver.Goals as goal
 
 pub invariant_of-air : goal.invariant_of-air

@@ -1,7 +1,6 @@
 use Rattle.std.proofs.Common.{◌≡◌, ℕ, ◌-◌, ◌+◌, sym, ap, ◌∙◌, arith}
-use Rattle.pair.specs.Deeds.{Act}
 use Rattle.pair.specs.Pairs.{act_seen, world_seen, setup_seen}
-use Rattle.sweeping.specs.Plans.{loss_in, deed_under, fate_under, plan_after, turn_of}
+use Rattle.sweeping.specs.Plans.{loss_in, deed_under, fate_under, turn_of}
 use Rattle.sweeping.specs.Played.{trail_seen}
 use Rattle.sweeping.specs.Rows.{most_turns}
 use Rattle.sweeping.specs.Trails.{and_then, driven}
@@ -24,9 +23,9 @@ loop-turn-preserved g c =
     let one : most_turns - (at._turn + 1) ≡ left - 1 = omega arith in (
       c.act-tally.ensures.setup ∙ at.invariant.0,
       ap (λ k. driven k u c.after-plan.result (trail_seen c.act-tally.new.pair c.act-tally.result)) one
-      ∙ (λ i. driven (left - 1) u (next i) ((c.act-tally.ensures.trail ∙ (λ j. and_then (at.invariant.0 j) (world_seen at.pair) at.tally.times (did j))) i))
-      ∙ sym (driven_on u at.plan (trail_seen at.pair at.tally) left (omega (arith, c.loop-turn-test.true)) (is_on at.tally.told.goes_on c.if-not-tally.false))
-      ∙ at.invariant.1,
+          ∙ (λ i. driven (left - 1) u (next i) ((c.act-tally.ensures.trail ∙ (λ j. and_then (at.invariant.0 j) (world_seen at.pair) at.tally.times (did j))) i))
+          ∙ sym (driven_on u at.plan (trail_seen at.pair at.tally) left (omega (arith, c.loop-turn-test.true)) (is_on at.tally.told.goes_on c.if-not-tally.false))
+          ∙ at.invariant.1,
     )
 
 pub returns-then-not-tally : goal.returns-then-not-tally

@@ -1,4 +1,4 @@
-use Rattle.std.proofs.Common.{◌≡◌, length, ◌∙◌, ap₂, rules}
+use Rattle.std.proofs.Common.{◌≡◌, length, ◌∙◌, rules}
 use Rattle.pair.specs.Deeds.{ask, hear, start}
 use Rattle.pair.specs.Pairs.{setup_seen, world_seen}
 use Rattle.pair.specs.Runs.{acted}

@@ -1,4 +1,4 @@
-use Rattle.std.proofs.Common.{string_bytes, sym}
+use Rattle.std.proofs.Common.{string_bytes}
 use Rattle.std.proofs.lemmas.Result.{IfOk-weaker}
 use Rattle.pair.specs.Pairs.{world_seen, setup_seen}
 use Rattle.text.specs.LineViews.{lines_left}
