@@ -13,8 +13,8 @@ use Rattle.exchange.specs.Moves.{Does, Within, beginning, buffer_after, hearing,
 use Rattle.exchange.specs.Runs.{run_link, run_seen}
 use Rattle.exchange.specs.declared.exchange.running.Running.{Running}
 use Rattle.exchange.specs.declared.turn.Limits.{Limits}
-use Rattle.exchange.specs.declared.turn.Turn.{Turn}
-use Rattle.exchange.specs.declared.turn.Turn.TheVariants.{Wrote, Answered, Over}
+use Rattle.exchange.specs.declared.turn.Next.{Next}
+use Rattle.exchange.specs.declared.turn.Next.TheVariants.{Wrote, Answered, Over}
 
 -- no limit bears on what an I-block does
 pub no_limit : (repeats waits : ℕ) (l : Link) (x : Exchange) (awaited chaining : Bool) (info : List ℕ) → on_information 0 0 l x awaited chaining info ≡ on_information repeats waits l x awaited chaining info
@@ -26,7 +26,7 @@ module _ (n : ℕ) (old front new : List ℕ) (first : IsFirstChunk old front n)
   pub kept : new ≡ front → new ++ drop n old ≡ old
   kept e = ap (λ l. l ++ drop n old) (e ∙ first.same) ∙ take-append-drop n old
 
-  wider : (r : Result Turn (Running × Refusal)) → new ≡ buffer_after (turn_seen r new).outcome front → Within r new → Does (turn_seen r new) r old (new ++ drop n old)
+  wider : (r : Result Next (Running × Refusal)) → new ≡ buffer_after (turn_seen r new).outcome front → Within r new → Does (turn_seen r new) r old (new ++ drop n old)
   wider (Err why) bytes within = record { moves = refl; bytes = kept bytes; within = tt }
   wider (Ok (Wrote r s)) bytes within =
       let f = take s.len new in
@@ -45,7 +45,7 @@ module _ (n : ℕ) (old front new : List ℕ) (first : IsFirstChunk old front n)
   wider (Ok (Over x ending report)) bytes within = record { moves = refl; bytes = kept bytes; within = tt }
 
   -- what a turn does in a buffer's first n bytes it does in the buffer
-  pub widened : {m : Move} {r : Result Turn (Running × Refusal)} → Does m r front new → Does m r old (new ++ drop n old)
+  pub widened : {m : Move} {r : Result Next (Running × Refusal)} → Does m r front new → Does m r old (new ++ drop n old)
   widened {m} {r} d =
       subst (λ (m : Move). Does m r old (new ++ drop n old)) d.moves
       (wider r (d.bytes ∙ ap (λ (m : Move). buffer_after m.outcome front) (sym d.moves)) d.within)

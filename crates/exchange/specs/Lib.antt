@@ -1,5 +1,6 @@
 pub mod Exchanges
 pub mod Faults
+pub mod Lent
 pub mod Links
 pub mod Listening
 pub mod Moves

@@ -10,8 +10,8 @@ use Rattle.exchange.specs.declared.exchange.Exchange.{Exchange}
 use Rattle.exchange.specs.declared.exchange.running.Running.{Running}
 use Rattle.exchange.specs.declared.turn.Limits.{Limits}
 use Rattle.exchange.specs.declared.turn.Sent.{Sent}
-use Rattle.exchange.specs.declared.turn.Turn.{Turn}
-use Rattle.exchange.specs.declared.turn.Turn.TheVariants.{Wrote, Answered, Over}
+use Rattle.exchange.specs.declared.turn.Next.{Next}
+use Rattle.exchange.specs.declared.turn.Next.TheVariants.{Wrote, Answered, Over}
 use Rattle.exchange.specs.Exchanges.{exchange_seen}
 use Rattle.exchange.specs.Links.{link_seen}
 use Rattle.exchange.specs.Runs.{run_link, run_seen}
@@ -35,7 +35,7 @@ abbrev pub sent_seen : Sent → List ℕ → Outcome
 sent_seen s buffer = wrote (take s.len buffer) s.cycles
 
 -- the move of a busy reader
-abbrev pub turn_seen : Result Turn (Running × Refusal) → List ℕ → Move
+abbrev pub turn_seen : Result Next (Running × Refusal) → List ℕ → Move
 turn_seen (Err kept) buffer = refuse (refusal_number kept.1) (at busy (run_link kept.0) (run_seen kept.0))
 turn_seen (Ok (Wrote r s)) buffer = to busy (run_link r) (run_seen r) (sent_seen s buffer)
 turn_seen (Ok (Answered x n report)) buffer =
@@ -67,7 +67,7 @@ hearing s l x e room =
     (on_reading s.repeats s.waits l x (read_as s.fsd (agreed_of l.cid) e))
 
 -- the frame stands in the buffer, all of it
-abbrev pub Within : Result Turn (Running × Refusal) → List ℕ → Type 0
+abbrev pub Within : Result Next (Running × Refusal) → List ℕ → Type 0
 Within (Err kept) buffer = Unit {0}
 Within (Ok (Wrote r s)) buffer = s.len ≤ length buffer
 Within (Ok (Answered x n report)) buffer = Unit {0}
@@ -75,7 +75,7 @@ Within (Ok (Over x ending report)) buffer = Unit {0}
 
 -- A turn does what the reader's rules say: the exchange after it and what it answers, every byte of the buffer, and the
 -- frame's length. What goes on is a Running, whose command runs.
-pub record Does (m : Move) (turn : Result Turn (Running × Refusal)) (old new : List ℕ) : Type 0 where
+pub record Does (m : Move) (turn : Result Next (Running × Refusal)) (old new : List ℕ) : Type 0 where
   pub moves : turn_seen turn new ≡ m
   pub bytes : new ≡ buffer_after m.outcome old
   pub within : Within turn new

@@ -1,6 +1,5 @@
 //! An exchange over a link: a command sent in parts, and its answer gathered.
-ghost use Rattle.std.specs.Prelude.{◌≡◌, ◌+◌, ◌*◌, ◌<◌, ◌≤◌, ◌++◌, IfOk, IfErr, is_ok, length, nat_le};
-ghost use Rattle.buffers.specs.Rooms.{answer_room};
+ghost use Rattle.std.specs.Prelude.{◌≡◌, ◌+◌, ◌*◌, ◌<◌, ◌≤◌, IfOk, IfErr, is_ok, length};
 ghost use Rattle.buffers.specs.Stores.{held};
 ghost use Rattle.protocol.specs.Reader.{blank_exchange, begun, is_command, running, say_of, more};
 ghost use Rattle.exchange.specs.Links.{link_seen};
@@ -10,11 +9,12 @@ use super::link::Link;
 use super::progress::Progress;
 use super::report::{Report, Says, Totals};
 use super::turn::Sent;
-use buffers::{ANSWER_ROOM, AnswerStore, COMMAND_ROOM, CommandStore};
+use buffers::{AnswerStore, COMMAND_ROOM, CommandStore};
 use frames::{Cause, Refusal};
 
 mod acknowledged;
 mod answered;
+mod lent;
 mod running;
 mod sending;
 
@@ -78,12 +78,8 @@ impl Exchange {
         }
     }
 
-    /// Copies a command of 1 to 261 bytes, and writes its first block to the front of `out`.
-    pub fn begin(
-        self,
-        command: &[u8],
-        out: &mut [u8],
-    ) -> Result<(Running, Sent), (Exchange, Refusal)>
+    /// Copies a command of 1 to 261 bytes, and writes its first block to the front of `out`: the command runs.
+    pub fn run(self, command: &[u8], out: &mut [u8]) -> Result<(Running, Sent), (Exchange, Refusal)>
         ensures { Begins (beginning (link_seen self.link) (exchange_seen self) command.now (length out.old)) result out.old out.new }
     {
         let Some(out) = out.first_chunk_mut() else {
@@ -178,12 +174,5 @@ impl Exchange {
         ensures { result ≡ more (exchange_seen self.now).answer }
     {
         !self.answer.gathered().is_empty()
-    }
-
-    /// The answer does not get too long by this information.
-    fn holds(&self, information: &[u8]) -> bool
-        ensures { result ≡ nat_le (length ((exchange_seen self.now).answer ++ information.now)) answer_room }
-    {
-        information.len() <= ANSWER_ROOM - self.answer.gathered().len()
     }
 }

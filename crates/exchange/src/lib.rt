@@ -14,4 +14,4 @@ pub use fault::SessionFault;
 pub use link::Link;
 pub use listening::listen;
 pub use report::{Ending, Report, Says, Totals};
-pub use turn::{Limits, Sent, Turn};
+pub use turn::{Limits, Next, Sent, Turn};

@@ -4,7 +4,7 @@ ghost use Rattle.protocol.specs.Reader.{more, same, on_equal, on_other, on_ack};
 
 use super::Running;
 use crate::report::Ending;
-use crate::turn::{Limits, Turn};
+use crate::turn::{Limits, Next};
 use frames::GREATEST_FRAME;
 
 impl Running {
@@ -12,7 +12,7 @@ impl Running {
     ghost use Rattle.exchange.specs.Runs.{run_link, run_seen};
 
     /// R(ACK) of equal number: the next part, fresh, if there is one.
-    fn on_equal(self, out: &mut [u8; GREATEST_FRAME]) -> Turn
+    fn on_equal(self, out: &mut [u8; GREATEST_FRAME]) -> Next
         ensures { Does (on_equal 0 0 (run_link self) (run_seen self) (more (run_seen self).rest)) (Ok result) out.old out.new }
     {
         if !self.exchange.has_more() {
@@ -30,7 +30,7 @@ impl Running {
     }
 
     /// R(ACK) of the other number: the part again, a repeat, unless the answer has begun.
-    fn on_other(self, limits: Limits, out: &mut [u8; GREATEST_FRAME]) -> Turn
+    fn on_other(self, limits: Limits, out: &mut [u8; GREATEST_FRAME]) -> Next
         ensures { Does (on_other limits.repeats limits.waits (run_link self) (run_seen self) (more (run_seen self).answer)) (Ok result) out.old out.new }
     {
         let Running { mut exchange } = self;
@@ -50,7 +50,7 @@ impl Running {
     }
 
     /// R(ACK), by its number.
-    pub(super) fn on_ack(self, limits: Limits, number: bool, out: &mut [u8; GREATEST_FRAME]) -> Turn
+    pub(super) fn on_ack(self, limits: Limits, number: bool, out: &mut [u8; GREATEST_FRAME]) -> Next
         ensures { Does (on_ack limits.repeats limits.waits (run_link self) (run_seen self) (same number (run_seen self).number)) (Ok result) out.old out.new }
     {
         if number == self.exchange.number {

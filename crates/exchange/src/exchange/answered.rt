@@ -6,7 +6,7 @@ ghost use Rattle.protocol.specs.Reader.{more, same, on_information};
 use super::Running;
 use crate::progress::Progress;
 use crate::report::Ending;
-use crate::turn::Turn;
+use crate::turn::Next;
 use frames::GREATEST_FRAME;
 
 impl Running {
@@ -21,7 +21,7 @@ impl Running {
         number: bool,
         information: &[u8],
         out: &mut [u8; GREATEST_FRAME],
-    ) -> Turn
+    ) -> Next
         requires some { 0 < length information.now }
         ensures { Does (on_information 0 0 (run_link self) (run_seen self) (both (same number (run_seen self).number) (not (more (run_seen self).rest))) chaining information.now) (Ok result) out.old out.new }
     {
@@ -37,7 +37,7 @@ impl Running {
         exchange.stretch = 0;
         if !chaining {
             exchange.progress = Progress::Finished;
-            return Turn::Answered {
+            return Next::Answered {
                 len: exchange.answer.gathered().len(),
                 report: exchange.report(),
                 exchange,

@@ -11,7 +11,7 @@ ghost use Rattle.exchange.specs.Views.{progress_seen};
 use super::Exchange;
 use crate::listening::listen;
 use crate::report::Ending;
-use crate::turn::{Limits, Turn};
+use crate::turn::{Limits, Next};
 use frames::{Block, Cause, GREATEST_FRAME, Refusal};
 
 /// An exchange whose command runs: a block was written, and the card's is awaited.
@@ -42,7 +42,7 @@ impl Running {
     }
 
     /// Silence, or an invalid block: ask again, with R(NAK), or with R(ACK) once the answer's first block is in.
-    fn on_invalid(self, limits: Limits, cause: Cause, out: &mut [u8; GREATEST_FRAME]) -> Turn
+    fn on_invalid(self, limits: Limits, cause: Cause, out: &mut [u8; GREATEST_FRAME]) -> Next
         ensures { Does (on_invalid limits.repeats limits.waits (run_link self) (run_seen self) (cause_seen cause)) (Ok result) out.old out.new }
     {
         if self.exchange.since >= limits.repeats {
@@ -57,7 +57,7 @@ impl Running {
     }
 
     /// A wait is answered with its multiplier, up to the limit; it is neither fresh nor a repeat.
-    fn on_wait(self, limits: Limits, multiplier: u8, out: &mut [u8; GREATEST_FRAME]) -> Turn
+    fn on_wait(self, limits: Limits, multiplier: u8, out: &mut [u8; GREATEST_FRAME]) -> Next
         requires low { 0 < multiplier }
         requires high { multiplier < 60 }
         ensures { Does (on_wait limits.repeats limits.waits (run_link self) (run_seen self) multiplier) (Ok result) out.old out.new }
@@ -72,11 +72,11 @@ impl Running {
         let running = Running { exchange };
         let block = Block::waiting(multiplier, 0, running.exchange.link.card());
         let sent = running.send(block, out);
-        Turn::Wrote { running, sent }
+        Next::Wrote { running, sent }
     }
 
     /// A block by its kind.
-    fn on_block(self, limits: Limits, block: Block<'_>, out: &mut [u8; GREATEST_FRAME]) -> Turn
+    fn on_block(self, limits: Limits, block: Block<'_>, out: &mut [u8; GREATEST_FRAME]) -> Next
         requires valid { ValidBlock (block_seen block) }
         ensures { Does (on_block limits.repeats limits.waits (run_link self) (run_seen self) (block_seen block.entry)) (Ok result) out.old out.new }
     {
@@ -95,7 +95,7 @@ impl Running {
     }
 
     /// What was heard after the last frame, or silence.
-    fn on_heard(self, limits: Limits, heard: Option<&[u8]>, out: &mut [u8; GREATEST_FRAME]) -> Turn
+    fn on_heard(self, limits: Limits, heard: Option<&[u8]>, out: &mut [u8; GREATEST_FRAME]) -> Next
         ensures does { Does (on_reading limits.repeats limits.waits (run_link self) (run_seen self) (read_as limits.fsd (agreed_of (run_link self).cid) (event_seen heard.entry))) (Ok result) out.old out.new }
 
         // A caller that lent a part of a slice learns here that it is whole.
@@ -113,7 +113,7 @@ impl Running {
         limits: Limits,
         heard: Option<&[u8]>,
         out: &mut [u8],
-    ) -> Result<Turn, (Running, Refusal)>
+    ) -> Result<Next, (Running, Refusal)>
         ensures { Does (hearing limits (run_link self) (run_seen self) (event_seen heard.entry) (length out.old)) result out.old out.new }
     {
         let Some(out) = out.first_chunk_mut() else {

@@ -9,7 +9,7 @@ ghost use Rattle.exchange.specs.Views.{ending_seen};
 
 use super::Running;
 use crate::report::Ending;
-use crate::turn::{Sent, Turn};
+use crate::turn::{Next, Sent};
 use frames::{Block, GREATEST_FRAME, write_block};
 
 impl Running {
@@ -57,33 +57,33 @@ impl Running {
     }
 
     /// The exchange goes on with a part of the command.
-    pub(super) fn write_part(self, out: &mut [u8; GREATEST_FRAME]) -> Turn
+    pub(super) fn write_part(self, out: &mut [u8; GREATEST_FRAME]) -> Next
         ensures { Does (writes (run_link self) (run_seen self) (part_block (run_link self) (run_seen self))) (Ok result) out.old out.new }
     {
         let sent = self.send_part(out);
-        Turn::Wrote {
+        Next::Wrote {
             running: self,
             sent,
         }
     }
 
     /// The exchange goes on with an R-block.
-    pub(super) fn acknowledge(self, nak: bool, out: &mut [u8; GREATEST_FRAME]) -> Turn
+    pub(super) fn acknowledge(self, nak: bool, out: &mut [u8; GREATEST_FRAME]) -> Next
         ensures { Does (writes (run_link self) (run_seen self) (r_block nak (run_seen self).number (run_link self).cid)) (Ok result) out.old out.new }
     {
         let block = Block::acknowledging(nak, self.exchange.number, self.exchange.link.card());
         let sent = self.send(block, out);
-        Turn::Wrote {
+        Next::Wrote {
             running: self,
             sent,
         }
     }
 
     /// The exchange ends against the reader's will.
-    pub(super) fn over(self, ending: Ending) -> Turn
+    pub(super) fn over(self, ending: Ending) -> Next
         ensures { (buffer : List ℕ) → Does (ends (run_link self) (run_seen self) (ending_seen ending)) (Ok result) buffer buffer }
     {
-        Turn::Over {
+        Next::Over {
             ending,
             report: self.exchange.report(),
             exchange: self.exchange,

@@ -8,7 +8,7 @@ ghost use Rattle.stages.specs.Stages.{idle_seen, busy_seen};
 use super::{Busy, Ended, Idle, Listen};
 use crate::next::{AfterBlock, Heard};
 use crate::outcome::Outcome;
-use exchange::{Report, Sent, Turn};
+use exchange::{Next, Report, Sent};
 use frames::Refusal;
 
 impl Idle {
@@ -17,7 +17,7 @@ impl Idle {
         ensures { Does (setup_seen self.setup) (idle_seen self) (begins command.now) (began result out.new) out.old out.new }
     {
         let setup = self.setup;
-        match self.exchange.begin(command, out) {
+        match self.exchange.run(command, out) {
             Ok((running, sent)) => Ok((Busy { setup, running }, sent)),
             Err((exchange, why)) => Err((Idle { setup, exchange }, why)),
         }
@@ -31,16 +31,16 @@ impl Listen for Busy {
 
     fn listen<'a>(self, bytes: Option<&'a [u8]>, out: &mut [u8]) -> Heard<'a, AfterBlock, Busy> {
         let setup = self.setup;
-        let turn = match self.running.hear(setup.limits(), bytes, out) {
-            Ok(turn) => turn,
+        let next = match self.running.hear(setup.limits(), bytes, out) {
+            Ok(next) => next,
             Err((running, why)) => return Err((Busy { setup, running }, why)),
         };
-        Ok(match turn {
-            Turn::Wrote { running, sent } => (
+        Ok(match next {
+            Next::Wrote { running, sent } => (
                 AfterBlock::Busy(Busy { setup, running }),
                 Outcome::Wrote(sent),
             ),
-            Turn::Answered {
+            Next::Answered {
                 exchange,
                 len,
                 report,
@@ -48,7 +48,7 @@ impl Listen for Busy {
                 AfterBlock::Idle(Idle { setup, exchange }),
                 Outcome::Answered { len, report },
             ),
-            Turn::Over {
+            Next::Over {
                 exchange,
                 ending,
                 report,

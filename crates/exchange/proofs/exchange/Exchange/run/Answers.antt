@@ -7,7 +7,7 @@ use Rattle.exchange.specs.Exchanges.{exchange_seen}
 use Rattle.exchange.specs.Links.{link_seen}
 use Rattle.exchange.specs.Moves.{Begins}
 use Rattle.exchange.proofs.Moves.{beginning_goes, beginning_refuses, kept, widened}
-use Rattle.exchange.proofs.exchange.Exchange.begin.Goals as goal
+use Rattle.exchange.proofs.exchange.Exchange.run.Goals as goal
 
 pub returns-in_err-running : goal.returns-in_err-running
 returns-in_err-running c =
