@@ -30,7 +30,7 @@ abbrev pub asking_seen : Asking → Reader
 asking_seen s = at asking blank_link (awaited s.tries s.why)
 
 abbrev pub woken_seen : Woken → Reader
-woken_seen s = at woken (link_seen s.exchange.link) (exchange_seen s.exchange)
+woken_seen s = at woken (link_seen s.exchange.link) blank_exchange
 
 abbrev pub failed_seen : Failed → Reader
 failed_seen s = at failed blank_link (awaited s.asking.tries s.asking.why)

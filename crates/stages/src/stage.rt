@@ -1,5 +1,9 @@
 //! The stages of a session. Each is a type of its own, is never copied, and has just the calls that belong to it. Where two
 //! hold the same, as Idle and Ended do, their calls differ: a struct over a marker for the stage would be no plainer.
+ghost use Rattle.std.specs.Prelude.{◌≡◌};
+ghost use Rattle.protocol.specs.Reader.{blank_exchange};
+ghost use Rattle.exchange.specs.Exchanges.{exchange_seen};
+
 use super::setup::Setup;
 use exchange::{Exchange, Running};
 use frames::Cause;
@@ -28,11 +32,12 @@ pub struct Asking {
     why: Option<Cause>,
 }
 
-/// The card has answered with an ATS; no command was given yet.
+/// The card has answered with an ATS; no command was begun yet.
 #[derive(Drop)]
 pub struct Woken {
     setup: Setup,
     exchange: Exchange,
+    ghost blank: { exchange_seen exchange ≡ blank_exchange },
 }
 
 /// The card has not, as often as RATS was repeated; only close is left.

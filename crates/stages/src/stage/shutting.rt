@@ -11,8 +11,9 @@ use crate::requests::write_deselect;
 use exchange::{Link, Sent};
 use frames::Refusal;
 
-/// What becomes of a stage once deselect is out. No caller sees this trait, so that none can leave deselect out.
-pub trait Shut: Stage + Sized {
+/// What becomes of a stage once deselect is out. No caller sees this trait, and no trait that one sees rests on it, so that
+/// none can leave deselect out.
+trait Shut: Stage + Sized {
     fn shut(self) -> Closing
         ensures settings { setup_seen result.setup ≡ Self.settings self }
         ensures reader { closing_seen result ≡ at closing (Self.reader self).link (tried 0 no_cause (Self.reader self).exchange) };
@@ -21,26 +22,46 @@ pub trait Shut: Stage + Sized {
     ghost shuts: { (s : Self) → may_close (Self.reader s) ≡ true };
 }
 
-/// A stage that takes close.
-pub trait Close: Shut {
-    /// Writes deselect, with the card number where the card has one.
-    fn close(self, out: &mut [u8]) -> Result<(Closing, Sent), (Self, Refusal)>
-        ensures { Does (Self.settings self) (Self.reader self) closes (closed_by Self.settings Self.reader result out.new) out.old out.new }
-    {
-        match write_deselect(self.view().link.and_then(Link::card), out) {
-            Ok(sent) => Ok((self.shut(), sent)),
-            Err(why) => Err((self, why)),
-        }
+/// Writes deselect, with the card number where the card has one.
+fn deselect<S: Shut>(stage: S, out: &mut [u8]) -> Result<(Closing, Sent), (S, Refusal)>
+    ensures { Does (S.Stage.settings stage) (S.Stage.reader stage) closes (closed_by S.Stage.settings S.Stage.reader result out.new) out.old out.new }
+{
+    match write_deselect(stage.view().link.and_then(Link::card), out) {
+        Ok(sent) => Ok((stage.shut(), sent)),
+        Err(why) => Err((stage, why)),
     }
 }
 
-impl Close for Woken {}
+/// A stage that takes close.
+pub trait Close: Stage + Sized {
+    /// Writes deselect, with the card number where the card has one.
+    fn close(self, out: &mut [u8]) -> Result<(Closing, Sent), (Self, Refusal)>
+        ensures { Does (Self.settings self) (Self.reader self) closes (closed_by Self.settings Self.reader result out.new) out.old out.new };
+}
 
-impl Close for Failed {}
+impl Close for Woken {
+    fn close(self, out: &mut [u8]) -> Result<(Closing, Sent), (Woken, Refusal)> {
+        deselect(self, out)
+    }
+}
 
-impl Close for Idle {}
+impl Close for Failed {
+    fn close(self, out: &mut [u8]) -> Result<(Closing, Sent), (Failed, Refusal)> {
+        deselect(self, out)
+    }
+}
 
-impl Close for Ended {}
+impl Close for Idle {
+    fn close(self, out: &mut [u8]) -> Result<(Closing, Sent), (Idle, Refusal)> {
+        deselect(self, out)
+    }
+}
+
+impl Close for Ended {
+    fn close(self, out: &mut [u8]) -> Result<(Closing, Sent), (Ended, Refusal)> {
+        deselect(self, out)
+    }
+}
 
 impl Shut for Woken {
     ghost shuts = { λ _. refl };
