@@ -1,6 +1,6 @@
 -- Cutting at a mark, and reading a number.
-use Rattle.std.proofs.Common.{◌≡◌, ℕ, zero, suc, ◌+◌, ◌-◌, ◌<◌, Bool, true, false, cond, eqb, List, [], ◌∷◌, length, get_or, take, drop, Some, None, Option, sym, refl, ap, ◌∙◌, add-one, arith}
-use Rattle.std.proofs.lemmas.List.{at_drop_more, take_rest}
+use Rattle.std.proofs.Common.{◌≡◌, ℕ, zero, suc, ◌+◌, ◌<◌, Bool, true, false, cond, eqb, List, [], ◌∷◌, length, get_or, take, drop, Some, None, Option, sym, refl, ap, ◌∙◌, add-one, arith}
+use Rattle.std.proofs.lemmas.List.{at_drop_more}
 use Rattle.memchr.specs.Find.{IsFirstByte, is_byte}
 use Rattle.text.specs.Hex.{among}
 use Rattle.text.specs.Words.{Cut, longer, cut_at, count_from, digit_on, number_in}
@@ -32,8 +32,8 @@ off : (b : Bool) → (b ≡ true → ⊥) → b ≡ false
 off true h = absurd (h refl)
 off false h = refl
 
-pub cut_found : (mark : ℕ) (xs : List ℕ) (i : ℕ) → IsFirstByte (is_byte mark) xs (Some i) → made (take i xs) (take (length xs - (i + 1)) (drop (i + 1) xs)) ≡ cut_at mark xs
-cut_found mark xs i h = rw (take_rest xs (i + 1), add-one) (cut_first mark xs i (record { before = λ k l. off (eqb (get_or xs k 0) mark) (h.0.before k (omega arith) l); here = h.1; within = h.0.high }))
+pub cut_found : (mark : ℕ) (xs : List ℕ) (i : ℕ) → IsFirstByte (is_byte mark) xs (Some i) → made (take i xs) (drop (i + 1) xs) ≡ cut_at mark xs
+cut_found mark xs i h = rw add-one (cut_first mark xs i (record { before = λ k l. off (eqb (get_or xs k 0) mark) (h.0.before k (omega arith) l); here = h.1; within = h.0.high }))
 
 pub cut_missed : (mark : ℕ) (xs : List ℕ) → IsFirstByte (is_byte mark) xs None → None ≡ cut_at mark xs
 cut_missed mark xs h = cut_nowhere mark xs (λ k l. off (eqb (get_or xs k 0) mark) (h k (omega arith) l))
