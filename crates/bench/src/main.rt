@@ -3,7 +3,7 @@
 
 use std::io;
 use std::io::{Read, Write};
-use trial::push_output;
+use trial::write_output;
 
 // The mains of `inspect`, `bench` and `bench_vectors` stay three: no clause can say what a function that they share would print.
 fn main(rt: HostRuntime) -> io::Result<()> {
@@ -11,6 +11,6 @@ fn main(rt: HostRuntime) -> io::Result<()> {
     let mut input = Vec::new(alloc);
     rt.stdin().read_to_end(&mut input)?;
     let mut out = String::new(alloc);
-    push_output(alloc, &mut out, &input)?;
+    write_output(alloc, &mut out, &input)?;
     rt.stdout().write_all(out.as_bytes())
 }

@@ -4,19 +4,18 @@
 use std::alloc::{AllocError, Global};
 use std::io;
 use std::io::{Read, Write};
-use text::Lines;
-use trial::push_output;
+use text::{Lines, push_line};
+use trial::write_output;
 
 fn push_each(alloc: Global, out: &mut String, input: &[u8]) -> Result<(), AllocError> {
     let mut script = Vec::new(alloc);
     for line in Lines::new(input) {
         if line == b"--".as_slice() {
-            push_output(alloc, out, &script)?;
+            write_output(alloc, out, &script)?;
             out.push_str("--\n")?;
             script.clear();
         } else {
-            script.extend_from_slice(line)?;
-            script.push(b'\n')?;
+            push_line(&mut script, line)?;
         }
     }
     Ok(())

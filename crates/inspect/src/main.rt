@@ -1,7 +1,7 @@
 //! Reads jobs from standard input, a line each, and prints what was done.
 #![tactic(auto)]
 
-use inspection::push_output;
+use inspection::write_output;
 use std::io;
 use std::io::{Read, Write};
 
@@ -11,6 +11,6 @@ fn main(rt: HostRuntime) -> io::Result<()> {
     let mut input = Vec::new(alloc);
     rt.stdin().read_to_end(&mut input)?;
     let mut out = String::new(alloc);
-    push_output(alloc, &mut out, &input)?;
+    write_output(alloc, &mut out, &input)?;
     rt.stdout().write_all(out.as_bytes())
 }

@@ -7,5 +7,5 @@ mod lines;
 mod printing;
 mod words;
 
-pub use lines::push_output;
+pub use lines::{push_output, write_output};
 pub use text::text_comes_back;

@@ -8,7 +8,7 @@ use std::alloc::{AllocError, Global};
 use text::{BadLine, Lines, ReadError};
 
 /// Appends an answer for each line of `input`, up to one that cannot be read.
-pub fn push_output(alloc: Global, out: &mut String, input: &[u8]) -> Result<(), AllocError>
+pub fn write_output(alloc: Global, out: &mut String, input: &[u8]) -> Result<(), AllocError>
     ensures { OnOk result (string_bytes out.new ≡ string_bytes out.old ++ output input.now) }
 {
     for (i, line) in Lines::new(input).enumerate() {
@@ -19,4 +19,13 @@ pub fn push_output(alloc: Global, out: &mut String, input: &[u8]) -> Result<(), 
         }
     }
     Ok(())
+}
+
+/// The same, into bytes.
+pub fn push_output(alloc: Global, out: &mut Vec<u8>, input: &[u8]) -> Result<(), AllocError>
+    ensures { OnOk result (out.new.items ≡ out.old.items ++ output input.now) }
+{
+    let mut text = String::new(alloc);
+    write_output(alloc, &mut text, input)?;
+    out.extend_from_slice(text.as_bytes())
 }

@@ -1,11 +1,12 @@
 //! Printing what a call did.
 ghost use Rattle.std.specs.Prelude.{◌≡◌, [], ◌∷◌, ◌++◌, OnOk, string_bytes};
 ghost use Rattle.exchange.specs.Views.{says_seen};
-ghost use Rattle.script.specs.Rows.{row_names, says_text, row_shown};
+ghost use Rattle.script.specs.Rows.{row_names, says_text, row_text, row_shown};
 
 use exchange::Says;
 use std::alloc::AllocError;
-use text::Hex;
+use std::io::Write;
+use text::{Hex, push_field, push_line};
 
 /// What a call did: its word and result, the frame that it wrote, the answer that it ended with, and what the reader says.
 #[derive(Clone, Copy, Debug, PartialEq, Eq)]
@@ -18,7 +19,7 @@ pub struct Row<'a> {
 }
 
 /// Appends the header.
-pub fn push_names(out: &mut String) -> Result<(), AllocError>
+pub fn write_names(out: &mut String) -> Result<(), AllocError>
     ensures { OnOk result (string_bytes out.new ≡ string_bytes out.old ++ (row_names ++ 10 ∷ [])) }
 {
     writeln!(out, "call result frame answer says")
@@ -38,7 +39,7 @@ pub fn says_word(says: Says) -> &'static str
 }
 
 /// Appends a call's row, a line.
-pub fn push_row(out: &mut String, row: Row<'_>) -> Result<(), AllocError>
+pub fn write_row(out: &mut String, row: Row<'_>) -> Result<(), AllocError>
     ensures { OnOk result (string_bytes out.new ≡ string_bytes out.old ++ row_shown row.entry) }
 {
     writeln!(
@@ -50,4 +51,33 @@ pub fn push_row(out: &mut String, row: Row<'_>) -> Result<(), AllocError>
         Hex(row.answer),
         says_word(row.says)
     )
+}
+
+/// Appends the header to bytes.
+pub fn push_names(out: &mut Vec<u8>) -> Result<(), AllocError>
+    ensures { OnOk result (out.new.items ≡ out.old.items ++ (row_names ++ 10 ∷ [])) }
+{
+    push_line(out, b"call result frame answer says")
+}
+
+/// Appends the row of a call to bytes; its word is any bytes.
+pub fn push_row(
+    out: &mut Vec<u8>,
+    word: &[u8],
+    res: usize,
+    frame: &[u8],
+    answer: &[u8],
+    says: Says,
+) -> Result<(), AllocError>
+    ensures { OnOk result (out.new.items ≡ out.old.items ++ row_text word.now res frame.now answer.now (says_seen says)) }
+{
+    push_field(out, word)?;
+    writeln!(
+        out,
+        "{res} {} {} {}",
+        Hex(frame),
+        Hex(answer),
+        says_word(says)
+    )
+    .map_err(|_| AllocError)
 }

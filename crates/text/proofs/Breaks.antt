@@ -1,10 +1,13 @@
 -- The first line of a text, and what stands behind it.
-use Rattle.std.proofs.Common.{◌≡◌, ℕ, ◌+◌, ◌<◌, ◌≤◌, Bool, true, false, cond, eqb, List, [], ◌∷◌, length, Some, None, Option, sym, refl, ap, ap₂, ◌∙◌, arith}
+use Rattle.std.proofs.Common.{◌≡◌, ℕ, ◌+◌, ◌<◌, ◌≤◌, Bool, true, false, cond, eqb, List, [], ◌∷◌, length, take, drop, Some, None, Option, sym, refl, ap, ap₂, ◌∙◌, arith}
+use Rattle.std.proofs.lemmas.List.{take_all, drop_all, take_rest}
 use Rattle.std.specs.Borrow.{Bor}
 use Rattle.std.specs.Option.{unwrap_or}
+use Rattle.std.specs.Slice.{IsGetRangeResult}
 use Rattle.text.specs.Lines.{prepend, lines_of}
-use Rattle.text.specs.WordViews.{cut_seen}
+use Rattle.memchr.specs.Find.{IsFirstByte, is_byte}
 use Rattle.text.specs.Words.{Cut, longer, cut_at}
+use Rattle.text.proofs.Cuts.{cut_found, cut_missed}
 
 -- the lines of a text that is cut at its first line break, or has none
 abbrev broken : List ℕ → Option Cut → List (List ℕ)
@@ -26,13 +29,21 @@ lines_of-cut (c ∷ d ∷ cs) h =
     either_broken c (d ∷ cs) (eqb c 10) (cut_at 10 (d ∷ cs)) (lines_of (d ∷ cs))
     (ap (prepend c) (lines_of-cut (d ∷ cs) (omega arith)) ∙ longer_broken c (d ∷ cs) (cut_at 10 (d ∷ cs)))
 
--- the first line and what stands behind it, where a cut was tried
-pub first_broken : (text : List ℕ) (r : Option (Bor (List ℕ) × Bor (List ℕ))) (d x : Bor (List ℕ) × Bor (List ℕ)) → 0 < length text → cut_seen r ≡ cut_at 10 text → d.0.now ≡ text → d.1.now ≡ [] → x ≡ unwrap_or r d → lines_of text ≡ x.0.now ∷ lines_of x.1.now
-first_broken text None d x h e whole none is =
-    lines_of-cut text h ∙ ap (broken text) (sym e) ∙ ap₂ (λ l m. l ∷ lines_of m) (sym whole) (sym none)
-    ∙ ap (λ y. y.0.now ∷ lines_of y.1.now) (sym is)
-first_broken text (Some p) d x h e whole none is =
-    lines_of-cut text h ∙ ap (broken text) (sym e) ∙ ap (λ y. y.0.now ∷ lines_of y.1.now) (sym is)
+-- the first line and what stands behind it: up to the first line break, or all where there is none
+pub first_line : (text : List ℕ) (o : Option ℕ) (end : ℕ) → 0 < length text → IsFirstByte (is_byte 10) text o → end ≡ unwrap_or o (length text) → lines_of text ≡ take end text ∷ lines_of (drop (end + 1) text)
+first_line text None end some h is =
+    lines_of-cut text some ∙ ap (broken text) (sym (cut_missed 10 text h))
+    ∙ ap₂ (λ l m. l ∷ lines_of m) (sym (take_all end text (omega arith))) (sym (drop_all (end + 1) text (omega arith)))
+first_line text (Some i) end some h is =
+    lines_of-cut text some ∙ ap (broken text) (sym (cut_found 10 text i h))
+    ∙ ap (λ n. take n text ∷ lines_of (drop (n + 1) text)) (sym is)
+
+-- what stands behind a place, and nothing where the text ends before it
+pub behind : (text : List ℕ) (n : ℕ) (r : Option (Bor (List ℕ))) (d x : Bor (List ℕ)) → IsGetRangeResult text n (length text) r → d.now ≡ [] → x ≡ unwrap_or r d → x.now ≡ drop n text
+behind text n None d x h none is =
+    let short : length text ≤ n = grind (arith, h) in
+    ap (λ y. y.now) is ∙ none ∙ sym (drop_all n text short)
+behind text n (Some p) d x h none is = ap (λ y. y.now) is ∙ h.0.2 ∙ take_rest text n
 
 length-prepend : (c : ℕ) (ls : List (List ℕ)) → length (prepend c ls) ≤ length ls + 1
 length-prepend c [] = omega arith

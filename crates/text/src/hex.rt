@@ -1,5 +1,5 @@
 //! Bytes as text: two hexadecimal digits a byte, and `-` for no bytes.
-ghost use Rattle.std.specs.Prelude.{◌≡◌, ◌*◌, ◌<◌, ◌≤◌, IfSome, length, Some, take, vec_items, IsUtf8};
+ghost use Rattle.std.specs.Prelude.{◌≡◌, ◌*◌, ◌<◌, ◌≤◌, [], ◌∷◌, IfSome, length, Some, take, vec_items, IsUtf8};
 ghost use Rattle.text.specs.Hex.{digit_of, byte_of, unhex, bytes_in, upper, hex, shown_bytes};
 ghost use Rattle.text.specs.Reads.{Reads};
 
@@ -27,13 +27,18 @@ pub fn byte(high: u8, low: u8) -> Option<u8>
     Some(16 * digit(high)? + digit(low)?)
 }
 
-/// The bytes that digits stand for.
+/// The bytes that digits stand for. (Never inlined, so that `bytes_in` is, and a dash costs no call.)
+#[inline(never)]
 fn bytes_of_digits(alloc: Global, digits: &[u8]) -> Result<Vec<u8>, ReadError>
     ensures { Reads vec_items (unhex digits.now) result }
 {
     let (pairs, []) = digits.as_chunks::<2>() else {
         return Err(ReadError::Unreadable);
     };
+    // memory is asked for only once it is known that there are bytes to hold
+    if !digits.iter().all(|c| digit(*c).is_some()) {
+        return Err(ReadError::Unreadable);
+    }
     let mut bytes = Vec::with_capacity(alloc, pairs.len())?;
     for [high, low] in pairs {
         bytes.push(byte(*high, *low).ok_or(ReadError::Unreadable)?)?;
@@ -42,6 +47,7 @@ fn bytes_of_digits(alloc: Global, digits: &[u8]) -> Result<Vec<u8>, ReadError>
 }
 
 /// The bytes that a field stands for.
+#[inline]
 pub fn bytes_in(alloc: Global, field: &[u8]) -> Result<Vec<u8>, ReadError>
     ensures { Reads vec_items (bytes_in field.now) result }
 {
@@ -71,6 +77,31 @@ fn digits_of<'a>(bytes: &[u8], digits: &'a mut [u8; 64]) -> &'a str
     str::from_utf8(&digits[..2 * bytes.len()]).unwrap()
 }
 
+/// The digit of a value below 16, as text.
+fn digit_text(n: u8) -> &'static str
+    requires { n < 16 }
+    ensures { result.now ≡ upper n ∷ [] }
+{
+    match n {
+        0 => "0",
+        1 => "1",
+        2 => "2",
+        3 => "3",
+        4 => "4",
+        5 => "5",
+        6 => "6",
+        7 => "7",
+        8 => "8",
+        9 => "9",
+        10 => "A",
+        11 => "B",
+        12 => "C",
+        13 => "D",
+        14 => "E",
+        _ => "F",
+    }
+}
+
 /// Bytes, as they are printed: two digits in upper case for each, and `-` for none.
 #[derive(Clone, Copy)]
 pub struct Hex<'a>(pub &'a [u8]);
@@ -79,13 +110,20 @@ impl<'a> fmt::Display for Hex<'a> {
     ghost output = { λ h. Some (shown_bytes h.0.now) };
 
     fn fmt<W: fmt::Write>(&self, f: &mut fmt::Formatter<W>) -> fmt::Result {
-        if self.0.is_empty() {
-            return write!(f, "-");
+        match self.0 {
+            [] => f.write_str("-"),
+            // one byte, as TA and TC of an ATS, without a buffer
+            [b] => {
+                f.write_str(digit_text(b / 16))?;
+                f.write_str(digit_text(b % 16))
+            }
+            bytes => {
+                // 32 bytes at a time: with `{b:02X}` for each byte, `inspect` takes 3.4 times as many instructions on frames of 200 bytes
+                for part in bytes.chunks(32) {
+                    f.write_str(digits_of(part, &mut [0; 64]))?;
+                }
+                Ok(())
+            }
         }
-        // 32 bytes at a time: with `{b:02X}` for each byte, `inspect` takes 3.4 times as many instructions on frames of 200 bytes
-        for part in self.0.chunks(32) {
-            f.write_str(digits_of(part, &mut [0; 64]))?;
-        }
-        Ok(())
     }
 }

@@ -5,10 +5,12 @@ mod error;
 mod hex;
 mod laws;
 mod lines;
+mod print;
 mod words;
 
 pub use error::ReadError;
 pub use hex::{Hex, byte, bytes_in};
 pub use laws::text_comes_back;
 pub use lines::{BadLine, Lines};
+pub use print::{push_field, push_line};
 pub use words::{GREATEST_NUMBER, cut, number_in};

@@ -2,7 +2,6 @@
 ghost use Rattle.std.specs.Prelude.{◌≡◌, ◌^◌, ◌<◌, length, Some};
 ghost use Rattle.text.specs.Lines.{lines_of, bad_text};
 
-use super::words::split_once;
 use std::fmt;
 
 /// The lines of a text, each without its line break.
@@ -36,8 +35,9 @@ impl<'a> Iterator for Lines<'a> {
         if self.rest.is_empty() {
             return None;
         }
-        let (line, rest) = split_once(self.rest, b'\n').unwrap_or((self.rest, &[]));
-        self.rest = rest;
+        let end = memchr::memchr(b'\n', self.rest).unwrap_or(self.rest.len());
+        let line = &self.rest[..end];
+        self.rest = self.rest.get(end + 1..).unwrap_or(&[]);
         Some(line)
     }
 }

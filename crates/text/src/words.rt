@@ -1,24 +1,17 @@
 //! The fields of a line.
 ghost use Rattle.std.specs.Prelude.{◌≡◌};
 ghost use Rattle.text.specs.WordViews.{cut_seen};
-ghost use Rattle.text.specs.Words.{cut_at, cut_of, number_in};
+ghost use Rattle.text.specs.Words.{cut_of, number_in};
 
 /// The least number that is too great for every field, 2 to the power of 32; greater ones count as this.
 pub const GREATEST_NUMBER: usize = 4294967296;
 
-/// What stands in front of the first `mark` and behind it.
-pub(super) fn split_once<'a>(text: &'a [u8], mark: u8) -> Option<(&'a [u8], &'a [u8])>
-    ensures { cut_seen result ≡ cut_at mark text.now }
-{
-    let i = memchr::memchr(mark, text)?;
-    Some((&text[..i], &text[i + 1..]))
-}
-
-/// Cuts at the first space.
+/// Cuts at the first space. (It is looked for step by step: the fields of a line are mostly shorter than what `memchr` is for.)
 pub fn cut<'a>(line: &'a [u8]) -> Option<(&'a [u8], &'a [u8])>
     ensures { cut_seen result ≡ cut_of line.now }
 {
-    split_once(line, b' ')
+    let i = line.iter().position(|c| *c == b' ')?;
+    Some((&line[..i], &line[i + 1..]))
 }
 
 /// The number that digits stand for, at most GREATEST_NUMBER. (`parse` would also read a sign, and refuse great numbers.)

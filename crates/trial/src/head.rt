@@ -9,7 +9,7 @@ use super::bench::set_up;
 use super::rows::push_rows;
 use applications::{Application, Metre, Yarn};
 use pair::Pair;
-use script::{App, Values, names_calls, names_setup, push_names, values_in};
+use script::{App, Values, names_calls, names_setup, values_in, write_names};
 use std::alloc::{AllocError, Global};
 use std::fmt::Write;
 use text::{BadLine, Lines};
@@ -25,7 +25,7 @@ fn push_calls<A: Application>(
 {
     match lines.next() {
         Some(line) if names_calls(line) => {
-            push_names(out)?;
+            write_names(out)?;
             push_rows(alloc, pair, out, lines)
         }
         _ => write!(out, "{}", BadLine(3)),
@@ -64,7 +64,7 @@ fn push_chosen(
 }
 
 /// Appends what is printed for a whole script.
-pub fn push_output(alloc: Global, out: &mut String, input: &[u8]) -> Result<(), AllocError>
+pub fn write_output(alloc: Global, out: &mut String, input: &[u8]) -> Result<(), AllocError>
     ensures { OnOk result (string_bytes out.new ≡ string_bytes out.old ++ output input.now) }
 {
     let mut lines = Lines::new(input);
@@ -75,4 +75,13 @@ pub fn push_output(alloc: Global, out: &mut String, input: &[u8]) -> Result<(), 
         Some(values) => push_chosen(alloc, values, out, lines),
         None => write!(out, "{}", BadLine(2)),
     }
+}
+
+/// The same, into bytes.
+pub fn push_output(alloc: Global, out: &mut Vec<u8>, input: &[u8]) -> Result<(), AllocError>
+    ensures { OnOk result (out.new.items ≡ out.old.items ++ output input.now) }
+{
+    let mut text = String::new(alloc);
+    write_output(alloc, &mut text, input)?;
+    out.extend_from_slice(text.as_bytes())
 }

@@ -7,4 +7,4 @@ mod head;
 mod rows;
 
 pub use bench::{card_settings, reader_settings, set_up, wake};
-pub use head::push_output;
+pub use head::{push_output, write_output};

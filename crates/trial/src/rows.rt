@@ -11,7 +11,7 @@ use super::entry::{step_of, without_check};
 use applications::Application;
 use buffers::ANSWER_ROOM;
 use pair::{Call, Fate, Outcome, Pair};
-use script::{Entry, Row, entry_in, push_row};
+use script::{Entry, Row, entry_in, write_row};
 use std::alloc::{AllocError, Global};
 use std::fmt::Write;
 use text::{BadLine, Lines, ReadError};
@@ -32,7 +32,7 @@ fn push_done<A: Application>(
     let mut answer = [0; ANSWER_ROOM];
     let says = pair.says();
     let len = pair.call(Call::Fetch, Fate::Whole, &mut answer).size();
-    push_row(
+    write_row(
         out,
         Row {
             word,
@@ -61,7 +61,7 @@ fn push_entry<A: Application>(
         Ok(Outcome::Wrote(sent)) => without_check(&frame[..sent.len]),
         _ => &[],
     };
-    push_row(
+    write_row(
         out,
         Row {
             word,
