@@ -3,7 +3,7 @@ use Rattle.std.proofs.lemmas.Iterator.{IsFirst-from_position, YieldsList-from_sl
 use Rattle.std.proofs.lemmas.List.{take_rest}
 use Rattle.text.specs.WordViews.{cut_seen}
 use Rattle.text.proofs.Cuts.{made, cut_first, cut_nowhere}
-use Rattle.text.proofs.words.cut.Goals as goal
+use Rattle.text.proofs.words.cut_short.Goals as goal
 
 pub returns-in_err-i : goal.returns-in_err-i
 returns-in_err-i c =
