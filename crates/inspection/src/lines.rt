@@ -21,11 +21,15 @@ pub fn write_output(alloc: Global, out: &mut String, input: &[u8]) -> Result<(),
     Ok(())
 }
 
-/// The same, into bytes.
+/// The same, behind bytes.
 pub fn push_output(alloc: Global, out: &mut Vec<u8>, input: &[u8]) -> Result<(), AllocError>
     ensures { OnOk result (out.new.items ≡ out.old.items ++ output input.now) }
 {
     let mut text = String::new(alloc);
     write_output(alloc, &mut text, input)?;
+    if out.is_empty() {
+        *out = Vec::from(text);
+        return Ok(());
+    }
     out.extend_from_slice(text.as_bytes())
 }

@@ -1,11 +1,10 @@
 -- Steps of reading and printing digits.
-use Rattle.std.proofs.Common.{◌≡◌, ℕ, zero, suc, ◌+◌, ◌*◌, ◌/◌, ◌%◌, ◌<◌, Bool, false, is_some, ◌&&◌, List, [], ◌∷◌, ◌++◌, length, get_or, set, take, drop, Some, None, Option, sym, refl, ap, ap₂, ◌∙◌, append_assoc, length-set, arith}
+use Rattle.std.proofs.Common.{◌≡◌, ℕ, zero, suc, ◌+◌, ◌*◌, ◌/◌, ◌%◌, ◌<◌, List, [], ◌∷◌, ◌++◌, length, get_or, set, take, drop, Some, None, Option, sym, refl, ap, ap₂, ◌∙◌, append_assoc, length-set, arith}
 use Rattle.std.proofs.lemmas.List.{at_drop_more, take_more, take_more_set}
 use Rattle.std.proofs.lemmas.Bool.Decides.{nat_tests}
-use Rattle.std.specs.List.{list_all}
 use Rattle.std.specs.Simd.{first_chunks}
 use Rattle.std.specs.Str.{IsAscii}
-use Rattle.text.specs.Hex.{digit_of, pair, byte_of, before, unhex, upper, hex}
+use Rattle.text.specs.Hex.{byte_of, before, unhex, upper, hex}
 
 -- bytes already read, and those that are left
 abbrev pub follow : List ℕ → Option (List ℕ) → Option (List ℕ)
@@ -41,22 +40,6 @@ unhex-odd zero (x ∷ y ∷ text) h = absurd (omega arith)
 unhex-odd (suc k) [] h = absurd (omega arith)
 unhex-odd (suc k) (x ∷ []) h = absurd (omega arith)
 unhex-odd (suc k) (x ∷ y ∷ text) h = before_none (byte_of x y) ∙ ap (before (byte_of x y)) (unhex-odd k text (omega arith))
-
--- the character is a digit
-abbrev pub is_digit : ℕ → Bool
-is_digit c = is_some (digit_of c)
-
-pair_none : (high low : Option ℕ) (others : Bool) (rest : Option (List ℕ)) → (others ≡ false → None ≡ rest) → (is_some high && (is_some low && others)) ≡ false → None ≡ before (pair high low) rest
-pair_none None low others rest f e = refl
-pair_none (Some h) None others rest f e = refl
-pair_none (Some h) (Some l) others rest f e = before_none (pair (Some h) (Some l)) ∙ ap (before (pair (Some h) (Some l))) (f e)
-
--- some character is no digit
-pub unhex-none : (text : List ℕ) → list_all is_digit text ≡ false → None ≡ unhex text
-unhex-none [] e = cc
-unhex-none (x ∷ []) e = refl
-unhex-none (x ∷ y ∷ text) e =
-    pair_none (digit_of x) (digit_of y) (list_all is_digit text) (unhex text) (unhex-none text) e
 
 -- nothing is read yet
 pub read_start : (text : List ℕ) (pairs : List (List ℕ)) (xs : List ℕ) → length text % 2 ≡ 0 → pairs ≡ first_chunks 2 (length text / 2) text → xs ≡ [] → follow xs (bytes_of (drop 0 pairs)) ≡ unhex text

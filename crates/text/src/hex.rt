@@ -35,11 +35,8 @@ fn bytes_of_digits(alloc: Global, digits: &[u8]) -> Result<Vec<u8>, ReadError>
     let (pairs, []) = digits.as_chunks::<2>() else {
         return Err(ReadError::Unreadable);
     };
-    // memory is asked for only once it is known that there are bytes to hold
-    if !digits.iter().all(|c| digit(*c).is_some()) {
-        return Err(ReadError::Unreadable);
-    }
-    let mut bytes = Vec::with_capacity(alloc, pairs.len())?;
+    // memory is asked for as bytes are read: a field that cannot be read needs none for what stands behind the place
+    let mut bytes = Vec::new(alloc);
     for [high, low] in pairs {
         bytes.push(byte(*high, *low).ok_or(ReadError::Unreadable)?)?;
     }

@@ -1,4 +1,4 @@
-use Rattle.std.proofs.Common.{take, drop, length, sym, ap, ◌∙◌, ◌-◌, ◌+◌}
+use Rattle.std.proofs.Common.{take, ap, ◌∙◌, ◌+◌}
 use Rattle.std.proofs.lemmas.List.{take_rest}
 use Rattle.text.specs.WordViews.{cut_seen}
 use Rattle.text.proofs.Cuts.{made, cut_found, cut_missed}
