@@ -4,14 +4,12 @@ use Rattle.frames.specs.Refused.{refusal_number}
 use Rattle.frames.specs.declared.refusal.Refusal.{Refusal}
 use Rattle.protocol.specs.Reader.{Exchange as Talk, running, busy, idle, ended, answered, over as ends, Move, at, to, refuse}
 use Rattle.exchange.specs.declared.exchange.Exchange.{Exchange}
-use Rattle.exchange.specs.declared.exchange.running.Running.{Running}
-use Rattle.exchange.specs.declared.turn.Next.{Next}
 use Rattle.exchange.specs.declared.turn.Sent.{Sent}
 use Rattle.exchange.specs.declared.turn.Turn.{Turn}
 use Rattle.exchange.specs.declared.turn.Turn.TheVariants.{Refused, Wrote, Answered, Over}
 use Rattle.exchange.specs.Exchanges.{exchange_seen}
 use Rattle.exchange.specs.Links.{link_seen}
-use Rattle.exchange.specs.Moves.{Does, buffer_after, sent_seen}
+use Rattle.exchange.specs.Moves.{buffer_after, sent_seen}
 use Rattle.exchange.specs.Views.{says_seen, totals_seen, ending_seen}
 
 -- the move of a busy reader
@@ -67,6 +65,26 @@ pub record Starts (m : Move) (x : Exchange) (r : Result Sent Refusal) (old new :
   pub within : BegunWithin r new
   pub going : Begun r (exchange_seen x)
 
--- a turn that took the exchange, as one that it is lent to: whatever it does, that does
-abbrev pub Parted : Result Next (Running × Refusal) → Exchange → Turn → Type 0
-Parted heard x turn = (m : Move) (old new : List ℕ) → Does m heard old new → Hears m x turn old new
+-- a call that is refused leaves the exchange as it was
+abbrev pub Kept : Turn → Exchange → Exchange → Type 0
+Kept (Refused why) old new = new ≡ old
+Kept (Wrote s) old new = Unit {0}
+Kept (Answered n report) old new = Unit {0}
+Kept (Over ending report) old new = Unit {0}
+
+-- what goes on is running, and nothing is refused
+abbrev pub Going : Turn → Talk → Type 0
+Going (Refused why) x = ⊥
+Going (Wrote s) x = x.progress ≡ running
+Going (Answered n report) x = Unit {0}
+Going (Over ending report) x = Unit {0}
+
+-- what a rule does: the exchange after it and what it answers, every byte of the buffer, and the frame's length
+pub record Rules (m : Move) (x : Exchange) (turn : Turn) (old new : List ℕ) : Type 0 where
+  pub moves : turn_seen x turn new ≡ m
+  pub bytes : new ≡ buffer_after m.outcome old
+  pub within : Within turn new
+
+-- the same of a frame that is written
+abbrev pub Sends : Move → Exchange → Sent → List ℕ → List ℕ → Type 0
+Sends m x s old new = Rules m x (Wrote s) old new

@@ -80,10 +80,6 @@ pub record Does (m : Move) (turn : Result Next (Running × Refusal)) (old new : 
   pub bytes : new ≡ buffer_after m.outcome old
   pub within : Within turn new
 
--- the same of a frame that is written
-abbrev pub Sends : Move → Running → Sent → List ℕ → List ℕ → Type 0
-Sends m r s old new = Does m (Ok (Wrote r s)) old new
-
 abbrev pub BegunWithin : Result (Running × Sent) (Exchange × Refusal) → List ℕ → Type 0
 BegunWithin (Ok begun) buffer = begun.1.len ≤ length buffer
 BegunWithin (Err kept) buffer = Unit {0}

@@ -1,5 +1,5 @@
 //! An exchange over a link: a command sent in parts, and its answer gathered.
-ghost use Rattle.std.specs.Prelude.{◌≡◌, ◌+◌, ◌*◌, ◌<◌, ◌≤◌, IfOk, IfErr, is_ok, length};
+ghost use Rattle.std.specs.Prelude.{◌≡◌, ◌+◌, ◌*◌, ◌<◌, ◌≤◌, IfErr, OnErr, OnOk, is_ok, length};
 ghost use Rattle.buffers.specs.Stores.{held};
 ghost use Rattle.protocol.specs.Reader.{blank_exchange, begun, is_command, running, say_of, more};
 ghost use Rattle.exchange.specs.Links.{link_seen};
@@ -14,7 +14,7 @@ use frames::{Cause, Refusal};
 
 mod acknowledged;
 mod answered;
-mod lent;
+mod hearing;
 mod running;
 mod sending;
 
@@ -50,8 +50,8 @@ pub struct Exchange {
 
 impl Exchange {
     ghost use Rattle.exchange.specs.Exchanges.{exchange_seen, room_for};
+    ghost use Rattle.exchange.specs.Lent.{Starts};
     ghost use Rattle.exchange.specs.Moves.{Begins, beginning};
-    ghost use Rattle.exchange.specs.Runs.{run_link, run_seen};
 
     /// Before a command.
     pub fn new(link: Link) -> Exchange
@@ -78,26 +78,40 @@ impl Exchange {
         }
     }
 
-    /// Copies a command of 1 to 261 bytes, and writes its first block to the front of `out`: the command runs.
-    pub fn run(self, command: &[u8], out: &mut [u8]) -> Result<(Running, Sent), (Exchange, Refusal)>
-        ensures { Begins (beginning (link_seen self.link) (exchange_seen self) command.now (length out.old)) result out.old out.new }
+    /// Copies a command of 1 to 261 bytes, and writes its first block to the front of `out`.
+    pub fn begin(&mut self, command: &[u8], out: &mut [u8]) -> Result<Sent, Refusal>
+        ensures begins { Starts (beginning (link_seen self.old.link) (exchange_seen self.old) command.now (length out.old)) self.new result out.old out.new }
+        ensures kept { OnErr result (self.new ≡ self.old) }
     {
         let Some(out) = out.first_chunk_mut() else {
-            return Err((self, Refusal::Buffer));
+            return Err(Refusal::Buffer);
         };
-        let running = self.load(command)?;
-        let sent = running.send_part(out);
-        Ok((running, sent))
+        self.load(command)?;
+        Ok(self.send_part(out))
+    }
+
+    /// The same of an exchange that is handed over: its command runs.
+    pub fn run(
+        mut self,
+        command: &[u8],
+        out: &mut [u8],
+    ) -> Result<(Running, Sent), (Exchange, Refusal)>
+        ensures { Begins (beginning (link_seen self.link) (exchange_seen self) command.now (length out.old)) result out.old out.new }
+    {
+        match self.begin(command, out) {
+            Ok(sent) => Ok((Running { exchange: self }, sent)),
+            Err(why) => Err((self, why)),
+        }
     }
 
     /// Copies a command of 1 to 261 bytes, and empties the answer: the first block is to go out.
-    fn load(mut self, command: &[u8]) -> Result<Running, (Exchange, Refusal)>
+    fn load(&mut self, command: &[u8]) -> Result<(), Refusal>
         ensures taken { is_ok result ≡ is_command command.now }
-        ensures ok { IfOk result (λ r. (run_link r ≡ link_seen self.link) × (run_seen r ≡ begun (room_for self.link) self.number command.now)) }
-        ensures err { IfErr result (λ kept. kept ≡ (self, Refusal.Length)) }
+        ensures ok { OnOk result ((self.new.link ≡ self.old.link) × (exchange_seen self.new ≡ begun (room_for self.old.link) self.old.number command.now)) }
+        ensures err { IfErr result (λ why. (why ≡ Refusal.Length) × (self.new ≡ self.old)) }
     {
         if command.is_empty() || command.len() > COMMAND_ROOM {
-            return Err((self, Refusal::Length));
+            return Err(Refusal::Length);
         }
         self.command.clear();
         self.command.append(command).unwrap();
@@ -114,7 +128,7 @@ impl Exchange {
         self.stretch = 0;
         self.other = false;
         self.came = false;
-        Ok(Running { exchange: self })
+        Ok(())
     }
 
     /// The link that the exchange goes over.
