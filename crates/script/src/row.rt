@@ -5,8 +5,7 @@ ghost use Rattle.script.specs.Rows.{row_names, says_text, row_text, row_shown};
 
 use exchange::Says;
 use std::alloc::AllocError;
-use std::io::Write;
-use text::{Hex, push_field, push_line};
+use text::{Hex, push_bytes, push_field, push_line, push_number_field};
 
 /// What a call did: its word and result, the frame that it wrote, the answer that it ended with, and what the reader says.
 #[derive(Clone, Copy, Debug, PartialEq, Eq)]
@@ -72,12 +71,12 @@ pub fn push_row(
     ensures { OnOk result (out.new.items ≡ out.old.items ++ row_text word.now res frame.now answer.now (says_seen says)) }
 {
     push_field(out, word)?;
-    writeln!(
-        out,
-        "{res} {} {} {}",
-        Hex(frame),
-        Hex(answer),
-        says_word(says)
-    )
-    .map_err(|_| AllocError)
+    push_number_field(out, res)?;
+    push_bytes(out, frame)?;
+    out.push(b' ')?;
+    push_bytes(out, answer)?;
+    out.push(b' ')?;
+    out.extend_from_slice(says_word(says).as_bytes())?;
+    out.push(b'\n')?;
+    Ok(())
 }
