@@ -16,6 +16,33 @@ mod tests {
     }
 
     #[test]
+    fn numbers(rt: HostRuntime) -> Result<(), Fail> {
+        let mut out = Vec::new(rt.alloc());
+        text::push_number_field(&mut out, 1009)?;
+        assert_eq!(rt; out.as_slice(), b"1009 ".as_slice());
+        text::push_number(&mut out, 10)?;
+        assert_eq!(rt; out.as_slice(), b"1009 10".as_slice());
+        Ok(())
+    }
+
+    #[test]
+    fn bytes(rt: HostRuntime) -> Result<(), Fail> {
+        let mut out = Vec::new(rt.alloc());
+        text::push_bytes(&mut out, &[])?;
+        text::push_bytes(&mut out, b"\x0a\xe7")?;
+        assert_eq!(rt; out.as_slice(), b"-0AE7".as_slice());
+        Ok(())
+    }
+
+    #[test]
+    fn bad_lines(rt: HostRuntime) -> Result<(), Fail> {
+        let mut out = Vec::new(rt.alloc());
+        text::push_bad(&mut out, 12)?;
+        assert_eq!(rt; out.as_slice(), b"bad line 12\n".as_slice());
+        Ok(())
+    }
+
+    #[test]
     fn rows(rt: HostRuntime) -> Result<(), Fail> {
         let mut out = Vec::new(rt.alloc());
         script::push_names(&mut out)?;

@@ -1,12 +1,11 @@
 //! Printing what a call did.
 ghost use Rattle.std.specs.Prelude.{◌≡◌, [], ◌∷◌, ◌++◌, OnOk, string_bytes};
 ghost use Rattle.exchange.specs.Views.{says_seen};
-ghost use Rattle.script.specs.Rows.{row_names, says_text, row_text, row_shown};
+ghost use Rattle.script.specs.Rows.{row_names, says_text, row_text, row_shown, result_text, shown_text};
 
 use exchange::Says;
 use std::alloc::AllocError;
-use std::io::Write;
-use text::{Hex, push_field, push_line};
+use text::{Hex, push_bytes, push_field, push_line, push_number_field};
 
 /// What a call did: its word and result, the frame that it wrote, the answer that it ended with, and what the reader says.
 #[derive(Clone, Copy, Debug, PartialEq, Eq)]
@@ -60,6 +59,27 @@ pub fn push_names(out: &mut Vec<u8>) -> Result<(), AllocError>
     push_line(out, b"call result frame answer says")
 }
 
+/// Appends a call's word, any bytes, and its result.
+fn push_result(out: &mut Vec<u8>, word: &[u8], res: usize) -> Result<(), AllocError>
+    ensures { OnOk result (out.new.items ≡ out.old.items ++ result_text word.now res) }
+{
+    push_field(out, word)?;
+    push_number_field(out, res)
+}
+
+/// Appends the frame that a call wrote, the answer that it ended with, and what the reader says.
+fn push_shown(out: &mut Vec<u8>, frame: &[u8], answer: &[u8], says: Says) -> Result<(), AllocError>
+    ensures { OnOk result (out.new.items ≡ out.old.items ++ shown_text frame.now answer.now (says_seen says)) }
+{
+    push_bytes(out, frame)?;
+    out.push(b' ')?;
+    push_bytes(out, answer)?;
+    out.push(b' ')?;
+    out.extend_from_slice(says_word(says).as_bytes())?;
+    out.push(b'\n')?;
+    Ok(())
+}
+
 /// Appends the row of a call to bytes; its word is any bytes.
 pub fn push_row(
     out: &mut Vec<u8>,
@@ -71,13 +91,6 @@ pub fn push_row(
 ) -> Result<(), AllocError>
     ensures { OnOk result (out.new.items ≡ out.old.items ++ row_text word.now res frame.now answer.now (says_seen says)) }
 {
-    push_field(out, word)?;
-    writeln!(
-        out,
-        "{res} {} {} {}",
-        Hex(frame),
-        Hex(answer),
-        says_word(says)
-    )
-    .map_err(|_| AllocError)
+    push_result(out, word, res)?;
+    push_shown(out, frame, answer, says)
 }

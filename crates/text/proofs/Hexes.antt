@@ -1,6 +1,6 @@
 -- Steps of reading and printing digits.
-use Rattle.std.proofs.Common.{◌≡◌, ℕ, zero, suc, ◌+◌, ◌*◌, ◌/◌, ◌%◌, ◌<◌, List, [], ◌∷◌, ◌++◌, length, get_or, set, take, drop, Some, None, Option, sym, refl, ap, ap₂, ◌∙◌, append_assoc, length-set, arith}
-use Rattle.std.proofs.lemmas.List.{at_drop_more, take_more, take_more_set}
+use Rattle.std.proofs.Common.{◌≡◌, ℕ, zero, suc, ◌+◌, ◌*◌, ◌/◌, ◌%◌, ◌<◌, ◌≤◌, List, [], ◌∷◌, ◌++◌, length, get_or, set, take, drop, Some, None, Option, sym, refl, ap, ap₂, ◌∙◌, append_assoc, append-nil, length-set, arith}
+use Rattle.std.proofs.lemmas.List.{at_drop_more, at_drop_all, take_more, take_more_set}
 use Rattle.std.proofs.lemmas.Bool.Decides.{nat_tests}
 use Rattle.std.specs.Simd.{first_chunks}
 use Rattle.std.specs.Str.{IsAscii}
@@ -77,6 +77,17 @@ two_put digits i a b h =
     ∙ take_more_set (set digits (2 * i) a) (2 * i + 1) b (omega (arith, length-set {A = ℕ}))
     ∙ ap (λ l. l ++ b ∷ []) (take_more_set digits (2 * i) a (omega arith))
     ∙ append_assoc (take (2 * i) digits) (a ∷ []) (b ∷ [])
+
+-- one byte appended
+pub print_on : (bytes xs ys whole : List ℕ) (i a b : ℕ) → i < length bytes → a ≡ upper (get_or bytes i 0 / 16) → b ≡ upper (get_or bytes i 0 % 16) → ys ≡ (xs ++ a ∷ []) ++ b ∷ [] → xs ++ hex (drop i bytes) ≡ whole → ys ++ hex (drop (i + 1) bytes) ≡ whole
+print_on bytes xs ys whole i a b h ea eb e inv =
+    let tail : List ℕ = hex (drop (i + 1) bytes) in
+    ap (λ l. l ++ tail) e ∙ append_assoc (xs ++ a ∷ []) (b ∷ []) tail ∙ append_assoc xs (a ∷ []) (b ∷ tail)
+    ∙ (λ k. xs ++ (ea k ∷ eb k ∷ tail)) ∙ ap (λ l. xs ++ l) (sym (at_drop_more hex bytes i 0 h)) ∙ inv
+
+-- all of them
+pub print_all : (bytes xs whole : List ℕ) (i : ℕ) → length bytes ≤ i → xs ++ hex (drop i bytes) ≡ whole → xs ≡ whole
+print_all bytes xs whole i h inv = sym (append-nil xs) ∙ ap (λ l. xs ++ l) (sym (at_drop_all hex bytes i h)) ∙ inv
 
 upper_small : (n : ℕ) → n < 16 → upper n < 128
 upper_small n h = grind (arith, nat_tests)

@@ -55,7 +55,8 @@ pub fn bytes_in(alloc: Global, field: &[u8]) -> Result<Vec<u8>, ReadError>
     }
 }
 
-fn upper_digit(n: u8) -> u8
+/// The digit of a value below 16, in upper case.
+pub(super) fn upper_digit(n: u8) -> u8
     requires { n < 16 }
     ensures { result ≡ upper n }
 {

@@ -1,0 +1,6 @@
+use Rattle.std.proofs.Common.{append_assoc, rules}
+use Rattle.std.proofs.lemmas.Fmt.{decimal_step, decimal_digit}
+use Rattle.text.proofs.print.+push_number.Goals as goal
+
+pub returns : goal.returns
+returns t c = search (rules, append_assoc, decimal_step, decimal_digit)
