@@ -12,7 +12,6 @@ use crate::writing::write_fit;
 use activation::{read_rats, write_pps_answer};
 use applications::Application;
 use frames::{Block, GREATEST_FRAME};
-use std::mem;
 
 /// Before RATS, awake, and after deselect.
 #[derive(Drop)]
@@ -37,18 +36,15 @@ impl CardState {
     ) -> Taken
         ensures { tells (settings_of settings.now) (card_of self.new) application.new result ≡ told_of (takes A.Application.model (settings_of settings.now) (card_of self.old) application.old frame.now) }
     {
-        match mem::replace(self, CardState::Halted) {
-            CardState::Asleep => self.wake(settings, frame),
-            CardState::Awake(mut card) => {
-                let taken = card.take(settings, application, frame);
-                if taken.is_last() {
-                    return taken;
-                }
-                *self = CardState::Awake(card);
-                taken
-            }
-            CardState::Halted => Taken::alone(None),
+        let taken = match self {
+            CardState::Asleep => return self.wake(settings, frame),
+            CardState::Awake(card) => card.take(settings, application, frame),
+            CardState::Halted => return Taken::alone(None),
+        };
+        if taken.is_last() {
+            *self = CardState::Halted;
         }
+        taken
     }
 
     /// A RATS wakes the card; any other frame leaves it asleep.
