@@ -6,5 +6,5 @@ mod session;
 pub use session::{Answer, Session};
 pub use stages::{
     AfterBlock, AfterDeselect, AfterRats, Asking, Busy, Close, Closed, Closing, Ended, Failed,
-    Fetch, Idle, Linked, Listen, Outcome, Settings, Stage, Unwoken, View, Woken, number_of,
+    Fetch, Idle, Linked, Listen, Outcome, Settings, Shut, Stage, Unwoken, View, Woken, number_of,
 };

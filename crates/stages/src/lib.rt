@@ -13,7 +13,7 @@ pub use next::{AfterBlock, AfterDeselect, AfterRats, Heard};
 pub use outcome::{Outcome, number_of};
 pub use settings::Settings;
 pub use stage::{
-    Asking, Busy, Close, Closed, Closing, Ended, Failed, Fetch, Idle, Linked, Listen, Stage,
+    Asking, Busy, Close, Closed, Closing, Ended, Failed, Fetch, Idle, Linked, Listen, Shut, Stage,
     Unwoken, Woken,
 };
 pub use view::View;

@@ -16,7 +16,7 @@ mod telling;
 mod waking;
 
 pub use calls::{Fetch, Linked, Listen, Stage};
-pub use shutting::Close;
+pub use shutting::{Close, Shut};
 
 /// Nothing was asked yet.
 #[derive(Drop)]

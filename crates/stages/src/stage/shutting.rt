@@ -11,19 +11,22 @@ use crate::requests::write_deselect;
 use exchange::{Link, Sent};
 use frames::Refusal;
 
-/// What becomes of a stage once deselect is out. No caller sees this trait, and no trait that one sees rests on it, so that
-/// none can leave deselect out.
-trait Shut: Stage + Sized {
-    fn shut(self) -> Closing
-        ensures settings { setup_seen result.setup ≡ Self.settings self }
-        ensures reader { closing_seen result ≡ at closing (Self.reader self).link (tried 0 no_cause (Self.reader self).exchange) };
-
+/// A stage at which close is refused for the buffer alone. (`Close` asks no such law of who implements it.)
+pub trait Shut: Stage {
     /// a card may be awake, and no exchange is open
     ghost shuts: { (s : Self) → may_close (Self.reader s) ≡ true };
 }
 
+/// What becomes of a stage once deselect is out. No caller sees this trait, and no trait that one sees rests on it, so that
+/// none can leave deselect out.
+trait Deselected: Shut + Sized {
+    fn shut(self) -> Closing
+        ensures settings { setup_seen result.setup ≡ Self.settings self }
+        ensures reader { closing_seen result ≡ at closing (Self.reader self).link (tried 0 no_cause (Self.reader self).exchange) };
+}
+
 /// Writes deselect, with the card number where the card has one.
-fn deselect<S: Shut>(stage: S, out: &mut [u8]) -> Result<(Closing, Sent), (S, Refusal)>
+fn deselect<S: Deselected>(stage: S, out: &mut [u8]) -> Result<(Closing, Sent), (S, Refusal)>
     ensures { Does (S.Stage.settings stage) (S.Stage.reader stage) closes (closed_by S.Stage.settings S.Stage.reader result out.new) out.old out.new }
 {
     match write_deselect(stage.view().link.and_then(Link::card), out) {
@@ -65,7 +68,9 @@ impl Close for Ended {
 
 impl Shut for Woken {
     ghost shuts = { λ _. refl };
+}
 
+impl Deselected for Woken {
     fn shut(self) -> Closing {
         Closing {
             setup: self.setup,
@@ -77,7 +82,9 @@ impl Shut for Woken {
 
 impl Shut for Failed {
     ghost shuts = { λ _. refl };
+}
 
+impl Deselected for Failed {
     fn shut(self) -> Closing {
         Closing {
             setup: self.asking.setup,
@@ -89,7 +96,9 @@ impl Shut for Failed {
 
 impl Shut for Idle {
     ghost shuts = { λ _. refl };
+}
 
+impl Deselected for Idle {
     fn shut(self) -> Closing {
         Closing {
             setup: self.setup,
@@ -101,7 +110,9 @@ impl Shut for Idle {
 
 impl Shut for Ended {
     ghost shuts = { λ _. refl };
+}
 
+impl Deselected for Ended {
     fn shut(self) -> Closing {
         Closing {
             setup: self.setup,
